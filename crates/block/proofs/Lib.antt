@@ -1,0 +1,4 @@
+pub mod Checking
+pub mod Sealing
+pub mod Building
+pub mod Reading

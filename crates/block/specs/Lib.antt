@@ -1,0 +1,4 @@
+pub mod Statuses
+pub mod Form
+pub mod Building
+pub mod Reading

@@ -1,0 +1,4 @@
+pub mod Whole
+pub mod Seal
+pub mod Apart
+pub mod Agreement
