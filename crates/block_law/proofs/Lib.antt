@@ -2,3 +2,4 @@ pub mod Whole
 pub mod Seal
 pub mod Apart
 pub mod Agreement
+pub mod Laws

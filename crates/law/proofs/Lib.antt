@@ -1,0 +1,9 @@
+pub mod States
+pub mod ShutOut
+pub mod Lines
+pub mod Ways
+pub mod Reading
+pub mod Talks
+pub mod Polls
+pub mod Calls
+pub mod Runs
