@@ -35,7 +35,7 @@ pub impl fmt::Display for Message as MessageDisplay {
         match (self.heading.protocol, kind) {
             (0, 0) => f.write_str(" acknowledgement")?,
             (0, 1) => f.write_str(" log-in")?,
-            _ => write!(f, " type {kind:x}h")?,
+            _ => write!(f, " type {kind:X}h")?,
         }
         let service = self.service;
         write!(f, "{service}")?;
@@ -51,7 +51,7 @@ pub impl fmt::Display for Service as ServiceDisplay {
         match *self {
             Service::Acknowledgement(code) => match Status::from_code(code) {
                 Some(status) => write!(f, " {status}"),
-                None => write!(f, " {code:02x}h unknown"),
+                None => write!(f, " {code:02X}h unknown"),
             },
             Service::LogInOffer(offer) => {
                 let accept = u8::from(offer.accept);
