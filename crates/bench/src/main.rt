@@ -1,5 +1,7 @@
 // Reads a script from standard input, rehearses it over two row lines and the sum check, and prints what came of each
 // step, or why the script was refused.
+#![tactic(auto)]
+
 use anyhow::anyhow;
 use check::Check;
 use checks::sum::SumCheck;

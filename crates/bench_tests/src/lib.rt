@@ -1,4 +1,6 @@
 // Scripts, and blocks for an end by itself, held to what the rules were worked out by hand to give.
+#![tactic(auto)]
+
 #[cfg(test)]
 mod captured;
 #[cfg(test)]

@@ -1,5 +1,7 @@
 // What holds of building and reading blocks together, under every lawful check. The proofs stand apart from the code
 // of blocks, over the definitions that its contracts cite.
+#![tactic(auto)]
+
 ghost use Rattle.block_law.specs.Theorems.{ReadBuilt, BuiltRead, ChangeShows};
 
 // Reading what was built gives heading and payload back, and building what was read gives the block back.

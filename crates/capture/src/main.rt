@@ -1,4 +1,6 @@
 // Reads a line capture from standard input and takes it apart, block by block.
+#![tactic(auto)]
+
 use check::Check;
 use checks::long::LongCheck;
 use checks::sum::SumCheck;

@@ -1,5 +1,7 @@
 // What a check over bytes is. The checks themselves stand in a crate of their own, so that code which is generic in
 // the check knows none of them.
+#![tactic(auto)]
+
 ghost use Rattle.std.specs.Prelude.{◌≡◌};
 ghost use Rattle.check.specs.Law.{Code, Bytes, Lawful};
 

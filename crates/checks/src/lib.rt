@@ -1,4 +1,6 @@
 // The checks that a block can carry: the sum check and the long check.
+#![tactic(auto)]
+
 pub mod long;
 pub mod sum;
 

@@ -1,4 +1,6 @@
 // A line over any line that counts the puts it refuses. It is a line itself, shown from the trait alone.
+#![tactic(auto)]
+
 ghost use Rattle.std.specs.Prelude.{◌≡◌, ◌≤◌, length, IfOk};
 ghost use Rattle.counted.specs.Counting.{refused_after};
 ghost use Rattle.line.specs.Blocks.{put_answer, put_after, take_answer, take_after, take_buffer};

@@ -1,4 +1,6 @@
 // An end of a link: its calls, over any lines and any check.
+#![tactic(auto)]
+
 pub mod ask;
 mod emit;
 pub mod end;

@@ -1,4 +1,6 @@
 // The worked examples, proved.
+#![tactic(auto)]
+
 ghost use Rattle.examples.specs.Examples.{Hold};
 ghost use Rattle.examples.specs.Links.{LinksHold};
 

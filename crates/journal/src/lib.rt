@@ -1,4 +1,6 @@
 // Whole runs of a link, carried out and written down.
+#![tactic(auto)]
+
 pub mod carry;
 pub mod entry;
 pub mod journal;

@@ -1,4 +1,6 @@
 // The law of whole runs, proved over the definitions that the code's contracts cite.
+#![tactic(auto)]
+
 ghost use Rattle.law.specs.Law.{RunsFaithful, CallsLeadOn};
 ghost use Rattle.law.specs.ShutOut.{LogInsClearNothing, AheadGetsNoGood, LoggedInAcknowledged};
 

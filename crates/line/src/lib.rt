@@ -1,4 +1,6 @@
 // A line: the blocks that wait one way, oldest first. Whatever shows this meaning is a line.
+#![tactic(auto)]
+
 ghost use Rattle.std.specs.Prelude.{◌≡◌, ℕ, ◌<◌, ◌≤◌, true, List, [], length, IfOk, slice_index_or};
 ghost use Rattle.line.specs.Blocks.{carried, put_answer, put_after, take_answer, take_after, take_buffer};
 

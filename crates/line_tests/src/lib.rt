@@ -1,4 +1,6 @@
 // The lines at work, one text for every pair of them.
+#![tactic(auto)]
+
 #[cfg(test)]
 mod tests {
     use counted::Counted;

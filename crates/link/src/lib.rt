@@ -1,4 +1,6 @@
 // A link: two ends, the line towards each, and their stores.
+#![tactic(auto)]
+
 pub mod ask;
 mod calls;
 pub mod link;

@@ -1,4 +1,6 @@
 // The payload of a log-in: six bytes.
+#![tactic(auto)]
+
 ghost use Rattle.std.specs.Prelude.{◌≡◌};
 ghost use Rattle.login.specs.Form.{encoded, decoded, ReadsBack};
 

@@ -1,4 +1,6 @@
 // Why a call declines: a reason with its number, and the layer that gave it.
+#![tactic(auto)]
+
 ghost use Rattle.std.specs.Prelude.{◌≡◌};
 ghost use Rattle.refusal.specs.Numbers.{number_of};
 

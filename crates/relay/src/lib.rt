@@ -1,4 +1,6 @@
 // A relay between any two lines. It knows nothing of a line but the trait.
+#![tactic(auto)]
+
 ghost use Rattle.std.specs.Prelude.{◌≡◌, ◌<◌, ◌≤◌, [], ◌∷◌, ◌++◌, length};
 ghost use Rattle.refusal.specs.Buffers.{over};
 ghost use Rattle.line.specs.Blocks.{oldest, later};

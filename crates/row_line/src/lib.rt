@@ -1,4 +1,6 @@
 // A line that holds its blocks in memory of its own, a row of memory for each.
+#![tactic(auto)]
+
 pub mod calls;
 pub mod row;
 pub mod rows;

@@ -1,4 +1,6 @@
 // A script: a list of calls with the limits of both ends, read from bytes.
+#![tactic(auto)]
+
 mod letter;
 pub mod pattern;
 pub mod read;

@@ -1,4 +1,6 @@
 // A survey of a line capture: the blocks in it, what they say, and what stands between them.
+#![tactic(auto)]
+
 pub mod item;
 pub mod pass;
 pub mod seen;

@@ -1,4 +1,6 @@
 // The wire form of blocks: 02h, the bytes with 02h, 03h and 1Bh escaped, 03h.
+#![tactic(auto)]
+
 pub mod read;
 pub mod scan;
 pub mod write;

@@ -1,4 +1,6 @@
 // A line that holds its blocks in their wire form, one frame behind the other.
+#![tactic(auto)]
+
 pub mod calls;
 mod frames;
 pub mod held;
