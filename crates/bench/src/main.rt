@@ -3,7 +3,7 @@
 #![tactic(auto)]
 
 use anyhow::anyhow;
-use check::Check;
+use block_check::Check;
 use checks::sum::SumCheck;
 use journal::carry::Run;
 use line::Line;

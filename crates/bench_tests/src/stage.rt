@@ -1,5 +1,5 @@
 // What the tests share: scripts made of letters, and a rehearsal whose printed lines are compared.
-use check::Check;
+use block_check::Check;
 use checks::long::LongCheck;
 use checks::sum::SumCheck;
 use counted::Counted;

@@ -6,7 +6,7 @@ ghost use Rattle.block.specs.Building.{refusal, begun, added, closed, built, beg
 
 use crate::half::{Declined, HalfMade, Sealed};
 use crate::heading::Heading;
-use check::Check;
+use block_check::Check;
 use refusal::{Layer, Reason, Refusal};
 
 // A caller that gives the half-made block up passes the refusal on by `?`.

@@ -7,7 +7,7 @@ ghost use Rattle.block.specs.Reading.{heading_of, size_of, shown, read_block};
 use crate::frame::Frame;
 use crate::heading::Heading;
 use crate::status::Status;
-use check::Check;
+use block_check::Check;
 
 // A header taken apart, and the bytes behind it.
 #[derive(Clone, Copy)]

@@ -3,7 +3,7 @@ use Rattle.std.proofs.Common.{◌≡◌, ℕ, ◌+◌, ◌<◌, ◌≤◌, true,
 use Rattle.std.proofs.lemmas.List.{length-append, length-drop, length-take-le, take-append-drop, take_at, drop_at, drop-drop, drop_more}
 use Rattle.std.proofs.ByRecursion.{All-get_or}
 use Rattle.std.proofs.lemmas.Bool.Decides.{nat_tests}
-use Rattle.check.specs.Law.{Bytes}
+use Rattle.block_check.specs.Law.{Bytes}
 use Rattle.block.specs.declared.heading.Heading.{Heading}
 use Rattle.block.specs.Form.{header, body, check_bytes, sealed, in_range}
 use Rattle.block.specs.Reading.{heading_of, size_of, content_of}

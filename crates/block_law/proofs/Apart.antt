@@ -4,7 +4,7 @@ use Rattle.std.proofs.Common.{◌≡◌, ℕ, ◌+◌, ◌-◌, ◌<◌, ◌≤�
 use Rattle.std.proofs.ByRecursion.{All-take}
 use Rattle.std.proofs.lemmas.List.{length-take, length-drop, get_or-take, get_or-drop, get_or_past, ext_get_or}
 use Rattle.std.proofs.lemmas.Bool.{cases_lt}
-use Rattle.check.specs.Law.{Bytes, DifferAt, Lawful}
+use Rattle.block_check.specs.Law.{Bytes, DifferAt, Lawful}
 use Rattle.block.specs.Form.{check_bytes}
 use Rattle.block.specs.Reading.{size_of}
 use Rattle.block_law.proofs.Seal.{same_value}

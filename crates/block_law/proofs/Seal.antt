@@ -2,7 +2,7 @@
 use Rattle.std.proofs.Common.{◌≡◌, ℕ, zero, suc, ◌+◌, ◌*◌, ◌^◌, ◌<◌, ◌≤◌, true, List, length, get_or, ap, arith}
 use Rattle.std.proofs.ByRecursion.{All-append}
 use Rattle.std.proofs.lemmas.Bool.Decides.{nat_tests}
-use Rattle.check.specs.Law.{Bytes, Lawful}
+use Rattle.block_check.specs.Law.{Bytes, Lawful}
 use Rattle.block.specs.declared.heading.Heading.{Heading}
 use Rattle.block.specs.Form.{header, body, check_bytes, sealed, in_range}
 

@@ -1,6 +1,6 @@
 -- Building and reading undo each other, and one changed byte shows, under every lawful check.
 use Rattle.std.specs.Prelude.{◌≡◌, ℕ, ◌<◌, ◌≤◌, true, false, List, length, is_ok, Ok}
-use Rattle.check.specs.Law.{Bytes, DifferAt, Lawful}
+use Rattle.block_check.specs.Law.{Bytes, DifferAt, Lawful}
 use Rattle.block.specs.declared.heading.Heading.{Heading}
 use Rattle.block.specs.Form.{sealed, in_range}
 use Rattle.block.specs.Reading.{Content, read_block}

@@ -1,7 +1,7 @@
 // Reads a line capture from standard input and takes it apart, block by block.
 #![tactic(auto)]
 
-use check::Check;
+use block_check::Check;
 use checks::long::LongCheck;
 use checks::sum::SumCheck;
 use std::env;

@@ -4,7 +4,7 @@ use Rattle.std.proofs.Common.{sym, ◌∙◌, ap, le_of_suc-le-suc, not-suc-le-z
 use Rattle.std.proofs.lemmas.Nat.{xor_mod, xor_comm, xor_lt}
 use Rattle.std.specs.Int.Bits.{xor_assoc, xor_self, xor_zero_r}
 use Rattle.std.proofs.lemmas.Bool.Decides.{nat_tests}
-use Rattle.check.specs.Law.{Bytes}
+use Rattle.block_check.specs.Law.{Bytes}
 use Rattle.checks.specs.Crc.{shifted, bits, stepped, crc}
 
 undone : (a k : ℕ) → bit_xor (bit_xor a k) k ≡ a

@@ -2,7 +2,7 @@ use Rattle.std.specs.Prelude.{◌≡◌, ℕ, ◌<◌, List, length, slice_index
 use Rattle.std.proofs.Common.{arith}
 use Rattle.std.proofs.ByRecursion.{All-get_or}
 use Rattle.std.proofs.lemmas.List.Sums.{sum_by-set}
-use Rattle.check.specs.Law.{Bytes}
+use Rattle.block_check.specs.Law.{Bytes}
 use Rattle.checks.specs.Sums.{sum_value}
 
 -- two bytes that move the sum by a multiple of 256 are one

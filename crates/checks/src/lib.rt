@@ -8,7 +8,7 @@ pub mod sum;
 mod tests {
     use crate::long::LongCheck;
     use crate::sum::SumCheck;
-    use check::Check;
+    use block_check::Check;
 
     #[test]
     fn sums(rt: HostRuntime) {

@@ -1,12 +1,12 @@
 // The long check, two bytes wide: a CRC with the polynomial 1021h.
 ghost use Rattle.std.specs.Prelude.{◌≡◌};
-ghost use Rattle.check.specs.Law.{Bytes};
+ghost use Rattle.block_check.specs.Law.{Bytes};
 ghost use Rattle.checks.specs.Crc.{crc, stepped, shifted};
 ghost use Rattle.std.proofs.Common.{arith};
 ghost use Rattle.checks.specs.Shared.{tells_writes};
 ghost use Rattle.checks.specs.Steps.{crc_lt, crc_same};
 
-use check::Check;
+use block_check::Check;
 
 #[derive(Clone, Copy)]
 pub struct LongCheck;

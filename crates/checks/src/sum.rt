@@ -1,12 +1,12 @@
 // The sum check, one byte wide.
 ghost use Rattle.std.specs.Prelude.{◌≡◌};
-ghost use Rattle.check.specs.Law.{Bytes};
+ghost use Rattle.block_check.specs.Law.{Bytes};
 ghost use Rattle.checks.specs.Sums.{sum_value};
 ghost use Rattle.std.proofs.Common.{arith};
 ghost use Rattle.checks.specs.Shared.{tells_writes};
 ghost use Rattle.checks.specs.SumIsCheckLemmas.{sum_same};
 
-use check::Check;
+use block_check::Check;
 
 #[derive(Clone, Copy)]
 pub struct SumCheck;

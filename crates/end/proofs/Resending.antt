@@ -3,7 +3,7 @@ use Rattle.std.proofs.Common.{◌≡◌, ℕ, suc, ◌+◌, Bool, true, false, c
 use Rattle.std.proofs.lemmas.Bool.{ne_eqb}
 use Rattle.refusal.specs.Buffers.{over}
 use Rattle.line.specs.Blocks.{taken, put_after}
-use Rattle.check.specs.Law.{Code}
+use Rattle.block_check.specs.Law.{Code}
 use Rattle.block.specs.Reading.{Content}
 use Rattle.rules.specs.declared.seat.State.TheVariants.{LoggedOut}
 use Rattle.rules.specs.LogIns.{moved}

@@ -10,7 +10,7 @@ use block::build::build;
 use block::half::Sealed;
 use block::heading::Heading;
 use block::status::Status;
-use check::Check;
+use block_check::Check;
 use line::Line;
 use rules::answer::Heard;
 use rules::seat::{Latest, Seat, Side};

@@ -5,7 +5,7 @@ ghost use Rattle.end.specs.Views.{view, did};
 
 use crate::emit::emit_log_in;
 use crate::end::End;
-use check::Check;
+use block_check::Check;
 use line::Line;
 use login::LogIn;
 use refusal::{Layer, Reason, Refusal};

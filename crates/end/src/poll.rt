@@ -10,7 +10,7 @@ use crate::open::{has_room, refused_by_end};
 use block::frame::Frame;
 use block::heading::Heading;
 use block::read::read;
-use check::Check;
+use block_check::Check;
 use line::Line;
 use refusal::{Reason, Refusal};
 use rules::answer::{Handed, Heard, Polled, Tag};

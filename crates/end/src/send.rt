@@ -9,7 +9,7 @@ use crate::emit::emit;
 use crate::end::End;
 use crate::open::{has_room, refused_by_end};
 use block::heading::Heading;
-use check::Check;
+use block_check::Check;
 use line::Line;
 use refusal::{Reason, Refusal};
 use rules::answer::{Sent, Tag};

@@ -5,7 +5,7 @@ ghost use Rattle.end.specs.Views.{view, did_poll};
 
 use crate::end::End;
 use crate::open::has_room;
-use check::Check;
+use block_check::Check;
 use line::Line;
 use refusal::{Layer, Reason, Refusal};
 use rules::answer::Polled;

@@ -9,7 +9,7 @@ ghost use Rattle.end.specs.Views.{view, did};
 use crate::emit::{emit, emit_log_in};
 use crate::end::End;
 use crate::open::{has_room, refused_by_end};
-use check::Check;
+use block_check::Check;
 use line::Line;
 use outstanding::Outstanding;
 use refusal::{Reason, Refusal};

@@ -8,7 +8,7 @@ use Rattle.block.specs.declared.status.Status.{Status}
 use Rattle.block.specs.declared.status.Status.TheVariants.{Good, OutOfTurn}
 use Rattle.block.specs.declared.heading.Heading.{Heading}
 use Rattle.block.specs.Reading.{Content}
-use Rattle.check.specs.Law.{Code}
+use Rattle.block_check.specs.Law.{Code}
 use Rattle.checks.specs.Sums.{sum_value}
 use Rattle.login.specs.declared.Parameters.{Parameters}
 use Rattle.rules.specs.declared.seat.Side.{Side}

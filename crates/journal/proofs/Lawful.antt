@@ -2,7 +2,7 @@
 use Rattle.std.proofs.Common.{◌≡◌, ℕ, true, List, [], ◌∷◌, ◌++◌, drop, sym, ap, ◌∙◌, subst}
 use Rattle.std.proofs.ByRecursion.{All-take, All-drop}
 use Rattle.std.proofs.lemmas.List.Sums.{fold_push}
-use Rattle.check.specs.Law.{Code, Bytes, Lawful}
+use Rattle.block_check.specs.Law.{Code, Bytes, Lawful}
 use Rattle.login.specs.declared.Parameters.{Parameters}
 use Rattle.rules.specs.declared.seat.Side.TheVariants.{Controller, Sled}
 use Rattle.rules.specs.declared.call.Call.{Call as Asked}

@@ -1,7 +1,7 @@
 -- What is written down of a call is what the definitions say of it, and the count of cleared frames fits.
 use Rattle.std.proofs.Common.{◌≡◌, ℕ, ◌+◌, ◌^◌, ◌<◌, ◌≤◌, Bool, true, false, cond, List, [], ◌∷◌, ◌++◌, length, Ok, Err, vec_items, vec_len, vec_capacity, Vec, ap, ◌∙◌, arith}
 use Rattle.std.proofs.lemmas.List.{length-map, length-append}
-use Rattle.check.specs.Law.{Code}
+use Rattle.block_check.specs.Law.{Code}
 use Rattle.rules.specs.declared.seat.Side.{Side}
 use Rattle.rules.specs.declared.seat.Side.TheVariants.{Controller, Sled}
 use Rattle.rules.specs.declared.call.Call.{Call as Asked}

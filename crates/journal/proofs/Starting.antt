@@ -3,7 +3,7 @@ use Rattle.std.proofs.Common.{◌≡◌, ℕ, Bool, true, false, cond, ◌&&◌,
 use Rattle.std.proofs.lemmas.Bool.{and_parts, false≢true}
 use Rattle.refusal.specs.declared.Reason.TheVariants.{TooShort, LimitOutOfRange}
 use Rattle.refusal.specs.declared.Refusal.{Refusal}
-use Rattle.check.specs.Law.{Code, Bytes, Lawful}
+use Rattle.block_check.specs.Law.{Code, Bytes, Lawful}
 use Rattle.line.specs.declared.Line.{Ghosts}
 use Rattle.rules.specs.declared.call.Call.{Call as Asked}
 use Rattle.rules.specs.Ends.{in_limits}

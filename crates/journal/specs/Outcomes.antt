@@ -1,6 +1,6 @@
 -- What an answer to a whole run says.
 use Rattle.std.specs.Prelude.{◌≡◌, ℕ, List, Ok, Err, Result}
-use Rattle.check.specs.Law.{Code}
+use Rattle.block_check.specs.Law.{Code}
 use Rattle.line.specs.declared.Line.{Ghosts}
 use Rattle.rules.specs.declared.call.Call.{Call}
 use Rattle.link.specs.declared.parts.Parts.{Parts}

@@ -1,6 +1,6 @@
 -- A list of calls carried out one after the other, with one scratch for all of them.
 use Rattle.std.specs.Prelude.{◌≡◌, ℕ, ◌+◌, ◌<◌, List, [], ◌∷◌, ◌++◌, map, length, take, vec_items, fold}
-use Rattle.check.specs.Law.{Code}
+use Rattle.block_check.specs.Law.{Code}
 use Rattle.login.specs.declared.Parameters.{Parameters}
 use Rattle.line.specs.declared.Line.{Ghosts}
 use Rattle.rules.specs.declared.seat.Side.TheVariants.{Controller, Sled}

@@ -3,7 +3,7 @@ ghost use Rattle.journal.specs.Outcomes.{CarriedOut};
 
 use crate::journal::Journal;
 use crate::step::carry_all;
-use check::Check;
+use block_check::Check;
 use line::Line;
 use link::link::Link;
 use link::parts::{NotMade, Parts};

@@ -8,7 +8,7 @@ ghost use Rattle.journal.specs.Runs.{goes_on, ran, SoFar, shown, Level};
 use crate::entry::{Entry, Totals};
 use crate::journal::Journal;
 use crate::past::Past;
-use check::Check;
+use block_check::Check;
 use line::Line;
 use link::link::Link;
 use rules::call::{Answer, Call, Step};

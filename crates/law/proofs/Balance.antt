@@ -5,7 +5,7 @@ use Rattle.std.proofs.lemmas.List.{length_push}
 use Rattle.std.proofs.lemmas.Bool.{cond_both}
 use Rattle.refusal.specs.declared.Refusal.{Refusal}
 use Rattle.line.specs.Blocks.{take_answer, take_after, take_buffer}
-use Rattle.check.specs.Law.{Code}
+use Rattle.block_check.specs.Law.{Code}
 use Rattle.block.specs.declared.status.Status.{Status}
 use Rattle.block.specs.Reading.{Content, read_block}
 use Rattle.login.specs.declared.LogIn.{LogIn}

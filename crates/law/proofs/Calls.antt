@@ -7,7 +7,7 @@ use Rattle.std.proofs.lemmas.Bool.Decides.{nat_tests}
 use Rattle.refusal.specs.declared.Refusal.{Refusal}
 use Rattle.refusal.specs.Buffers.{over}
 use Rattle.line.specs.Blocks.{take_answer, take_after, take_buffer}
-use Rattle.check.specs.Law.{Code, Bytes, Lawful}
+use Rattle.block_check.specs.Law.{Code, Bytes, Lawful}
 use Rattle.block.specs.declared.status.Status.{Status}
 use Rattle.block.specs.Reading.{Content, read_block}
 use Rattle.login.specs.declared.Parameters.{Parameters}

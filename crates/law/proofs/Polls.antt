@@ -3,7 +3,7 @@ use Rattle.std.proofs.Common.{◌≡◌, ℕ, ◌+◌, ◌≤◌, Bool, true, fa
 use Rattle.std.specs.List.{AllByRecursion as All}
 use Rattle.std.proofs.lemmas.List.{append-nil}
 use Rattle.std.proofs.lemmas.Bool.{eqb-true, leb-false, and_from, or_parts, not_from_false, not-false, cond_both, ne_eqb}
-use Rattle.check.specs.Law.{Code, Lawful}
+use Rattle.block_check.specs.Law.{Code, Lawful}
 use Rattle.block.specs.declared.status.Status.{Status}
 use Rattle.block.specs.declared.status.Status.TheVariants.{Good, Unsupported, LogInInProgress, IllegalPause, OutOfTurn, BadLogIn, BadRecord}
 use Rattle.block.specs.Reading.{Content}

@@ -8,7 +8,7 @@ use Rattle.std.proofs.lemmas.Bool.{cases_eq, cond_both, cond-true, true≢false}
 use Rattle.std.proofs.lemmas.Bool.Decides.{nat_tests}
 use Rattle.refusal.specs.Buffers.{over}
 use Rattle.line.specs.Blocks.{carried, put_after}
-use Rattle.check.specs.Law.{Code, Bytes, Lawful}
+use Rattle.block_check.specs.Law.{Code, Bytes, Lawful}
 use Rattle.block.specs.declared.status.Status.{Status}
 use Rattle.block.specs.declared.status.Status.TheVariants.{BadCheck, OverLength, UnderLength}
 use Rattle.block.specs.Form.{body, check_bytes, sealed}

@@ -3,7 +3,7 @@ use Rattle.std.proofs.Common.{◌≡◌, ℕ, List, [], ◌∷◌, ◌++◌, len
 use Rattle.std.proofs.ByRecursion.{All-push}
 use Rattle.std.proofs.lemmas.List.{take-append-drop}
 use Rattle.std.proofs.lemmas.Bool.{false≢true}
-use Rattle.check.specs.Law.{Code, Lawful}
+use Rattle.block_check.specs.Law.{Code, Lawful}
 use Rattle.login.specs.declared.Parameters.{Parameters}
 use Rattle.rules.specs.declared.seat.Side.{Side}
 use Rattle.rules.specs.declared.seat.Side.TheVariants.{Controller, Sled}

@@ -3,7 +3,7 @@ use Rattle.std.proofs.Common.{◌≡◌, ℕ, ◌+◌, ◌-◌, ◌%◌, ◌<◌
 use Rattle.std.proofs.lemmas.Bool.{eqb-true, ltb-true, and_parts, and_left, cond_both, cond-false, ne_eqb}
 use Rattle.refusal.specs.declared.Refusal.{Refusal}
 use Rattle.line.specs.Blocks.{take_answer, take_after, take_buffer}
-use Rattle.check.specs.Law.{Code}
+use Rattle.block_check.specs.Law.{Code}
 use Rattle.block.specs.declared.status.Status.{Status}
 use Rattle.block.specs.declared.status.Status.TheVariants.{Good}
 use Rattle.block.specs.Reading.{Content, read_block}

@@ -2,7 +2,7 @@
 use Rattle.std.proofs.Common.{◌≡◌, ℕ, ◌<◌, ◌≤◌, min, Bool, true, false, cond, ◌&&◌, eqb, length, Some, None, Option, refl, arith}
 use Rattle.std.proofs.lemmas.Bool.{eqb-true, and_parts, cond_both, false≢true}
 use Rattle.std.proofs.lemmas.Bool.Decides.{nat_tests}
-use Rattle.check.specs.Law.{Bytes}
+use Rattle.block_check.specs.Law.{Bytes}
 use Rattle.block.specs.declared.heading.Heading.{Heading}
 use Rattle.block.specs.declared.status.Status.{Status}
 use Rattle.block.specs.declared.status.Status.TheVariants.{Good, BadCheck, OverLength, UnderLength, Unsupported, OutOfResources, LogInInProgress, IllegalPause, OutOfTurn, BadLogIn, BadRecord}

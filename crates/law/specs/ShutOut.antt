@@ -1,6 +1,6 @@
 -- Three things that must not happen.
 use Rattle.std.specs.Prelude.{◌≡◌, ℕ, ◌+◌, ◌-◌, ◌%◌, ◌<◌, ◌≤◌, true, ◌⊎◌, List, Some, ◌≢◌}
-use Rattle.check.specs.Law.{Code}
+use Rattle.block_check.specs.Law.{Code}
 use Rattle.block.specs.declared.status.Status.{Status}
 use Rattle.block.specs.declared.status.Status.TheVariants.{Good}
 use Rattle.block.specs.Reading.{Content}

@@ -2,7 +2,7 @@
 use Rattle.std.proofs.Common.{◌≡◌, ℕ, Bool, true, false, cond, List, [], Ok, Err, vec_len, Result, sym, refl, ap, ◌∙◌, subst}
 use Rattle.std.proofs.lemmas.Bool.{false≢true}
 use Rattle.refusal.specs.declared.Refusal.{Refusal}
-use Rattle.check.specs.Law.{Code, Lawful}
+use Rattle.block_check.specs.Law.{Code, Lawful}
 use Rattle.line.specs.declared.Line.{Ghosts}
 use Rattle.login.specs.declared.Parameters.{Parameters}
 use Rattle.rules.specs.declared.seat.Side.{Side}

@@ -1,7 +1,7 @@
 -- A call that did at its side what the definitions say is a step of the link, and leads on.
 use Rattle.std.proofs.Common.{◌≡◌, ℕ, ◌<◌, List, get_or, sym, ap, ◌∙◌, subst, w8, Fits}
 use Rattle.std.proofs.ByRecursion.{All-from_get_or}
-use Rattle.check.specs.Law.{Code, Bytes, Lawful}
+use Rattle.block_check.specs.Law.{Code, Bytes, Lawful}
 use Rattle.rules.specs.declared.seat.Side.{Side}
 use Rattle.rules.specs.Links.{Act, Answer, Acted, World, acts_at, moves, stepped}
 use Rattle.law.specs.Law.{OfBytes, LeadsOn}

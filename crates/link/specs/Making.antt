@@ -2,7 +2,7 @@
 use Rattle.std.specs.Prelude.{◌≡◌, List, [], Ok, Err, vec_len, Result}
 use Rattle.refusal.specs.declared.Reason.{Reason}
 use Rattle.refusal.specs.declared.Refusal.{Refusal}
-use Rattle.check.specs.Law.{Code}
+use Rattle.block_check.specs.Law.{Code}
 use Rattle.line.specs.declared.Line.{Ghosts}
 use Rattle.end.specs.declared.new.Unmade.{Unmade}
 use Rattle.end.specs.declared.new.Unmade.TheVariants.{Refused, OutOfMemory}

@@ -1,6 +1,6 @@
 -- What a link stands for, and what a call at a side did as one value.
 use Rattle.std.specs.Prelude.{◌≡◌, ℕ, List, vec_items}
-use Rattle.check.specs.Law.{Code}
+use Rattle.block_check.specs.Law.{Code}
 use Rattle.line.specs.declared.Line.{Ghosts}
 pub use Rattle.end.specs.Views.{agreed_by}
 use Rattle.rules.specs.declared.seat.Side.{Side}

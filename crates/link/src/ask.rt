@@ -3,7 +3,7 @@ ghost use Rattle.std.specs.Prelude.{◌≡◌, length};
 ghost use Rattle.link.specs.Worlds.{world, end_at, agreed_by};
 
 use crate::link::Link;
-use check::Check;
+use block_check::Check;
 use line::Line;
 use login::Parameters;
 use rules::seat::{Side, State};

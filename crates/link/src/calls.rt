@@ -1,11 +1,11 @@
 // The calls at a node, towards any outgoing line.
 ghost use Rattle.std.specs.Prelude.{◌≡◌, ℕ, List, OnErr};
-ghost use Rattle.check.specs.Law.{Code};
+ghost use Rattle.block_check.specs.Law.{Code};
 ghost use Rattle.rules.specs.Links.{open_link, send, poll, timeout, lose, spoil, opened, sent, polled, timed_out, lost, acts};
 ghost use Rattle.link.specs.Nodes.{node, did};
 
 use crate::node::Node;
-use check::Check;
+use block_check::Check;
 use line::Line;
 use refusal::{Layer, Reason, Refusal};
 use rules::answer::{Polled, Sent, Tag};

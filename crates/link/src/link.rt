@@ -1,6 +1,6 @@
 // The link: each end with the line towards it. The line from an end is the line towards the other.
 use crate::node::Node;
-use check::Check;
+use block_check::Check;
 use line::Line;
 
 #[derive(Drop)]

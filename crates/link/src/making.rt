@@ -6,7 +6,7 @@ ghost use Rattle.link.specs.Making.{Makes, Fresh, FromHere};
 use crate::link::Link;
 use crate::node::Node;
 use crate::parts::{NotMade, Parts};
-use check::Check;
+use block_check::Check;
 use end::end::End;
 use end::new::{Unmade, limits_hold};
 use line::Line;

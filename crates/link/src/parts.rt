@@ -1,5 +1,5 @@
 // What a link is made of.
-use check::Check;
+use block_check::Check;
 use end::new::Unmade;
 use line::Line;
 use login::Parameters;

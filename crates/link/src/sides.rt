@@ -7,7 +7,7 @@ ghost use Rattle.law.specs.Law.{LeadsOn};
 ghost use Rattle.link.specs.Worlds.{world, outcome, steps, wrote, Unmoved};
 
 use crate::link::Link;
-use check::Check;
+use block_check::Check;
 use line::Line;
 use refusal::Refusal;
 use rules::answer::{Polled, Sent, Tag};

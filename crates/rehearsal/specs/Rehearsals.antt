@@ -1,6 +1,6 @@
 -- What an answer to the rehearsal of a script says.
 use Rattle.std.specs.Prelude.{◌≡◌, ℕ, ◌%◌, ◌<◌, true, List, [], length, Ok, Err, vec_len, Result, slice_index}
-use Rattle.check.specs.Law.{Code}
+use Rattle.block_check.specs.Law.{Code}
 use Rattle.line.specs.declared.Line.{Ghosts}
 use Rattle.end.specs.declared.new.Unmade.{Unmade}
 use Rattle.end.specs.declared.new.Unmade.TheVariants.{Refused as Declined, OutOfMemory as Wanting}

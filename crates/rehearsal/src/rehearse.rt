@@ -3,7 +3,7 @@ ghost use Rattle.std.specs.Prelude.{◌≡◌, IfOk, vec_len};
 ghost use Rattle.script.specs.Patterns.{Patterned};
 ghost use Rattle.rehearsal.specs.Rehearsals.{Rehearsed, halts_as, stops_as, Ready};
 
-use check::Check;
+use block_check::Check;
 use end::new::Unmade;
 use journal::carry::{Run, Stopped, carry_out};
 use line::Line;

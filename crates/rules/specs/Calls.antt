@@ -5,7 +5,7 @@ use Rattle.refusal.specs.declared.Reason.{Reason}
 use Rattle.refusal.specs.declared.Reason.TheVariants.{TooShort, HeadingOutOfRange, PayloadTooLong, NotInitial, WrongState, AboveAgreedSize, WindowFull}
 use Rattle.refusal.specs.declared.Refusal.{Refusal}
 use Rattle.line.specs.Blocks.{take_answer, take_after, take_buffer}
-use Rattle.check.specs.Law.{Code}
+use Rattle.block_check.specs.Law.{Code}
 use Rattle.block.specs.declared.heading.Heading.{Heading}
 use Rattle.block.specs.declared.status.Status.{Status}
 use Rattle.block.specs.Reading.{Content, read_block}

@@ -5,7 +5,7 @@ use Rattle.refusal.specs.declared.Reason.{Reason}
 use Rattle.refusal.specs.declared.Reason.TheVariants.{TooShort, LimitOutOfRange, SpoilByZero}
 use Rattle.refusal.specs.declared.Refusal.{Refusal}
 use Rattle.line.specs.Blocks.{take_answer, take_after, take_buffer}
-use Rattle.check.specs.Law.{Code}
+use Rattle.block_check.specs.Law.{Code}
 use Rattle.login.specs.declared.Parameters.{Parameters}
 use Rattle.rules.specs.declared.seat.Side.{Side}
 use Rattle.rules.specs.declared.seat.Side.TheVariants.{Controller, Sled}

@@ -2,7 +2,7 @@
 use Rattle.std.specs.Prelude.{ℕ, ◌+◌, cond, List, [], ◌∷◌, map}
 use Rattle.refusal.specs.Buffers.{over}
 use Rattle.line.specs.Blocks.{taken, put_after}
-use Rattle.check.specs.Law.{Code}
+use Rattle.block_check.specs.Law.{Code}
 use Rattle.block.specs.Form.{sealed}
 use Rattle.block.specs.Reading.{Content}
 

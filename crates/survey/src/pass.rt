@@ -4,7 +4,7 @@ ghost use Rattle.survey.specs.Passing.{begun, gap_item, Stepped, survey_of};
 
 use crate::item::{Carried, Item, Skipped};
 use crate::seen::see;
-use check::Check;
+use block_check::Check;
 use std::alloc::{AllocError, Global};
 use wire::read::read;
 use wire::write::measure;

@@ -6,7 +6,7 @@ use block::frame::Frame;
 use block::heading::Heading;
 use block::read::read;
 use block::status::Status;
-use check::Check;
+use block_check::Check;
 use login::LogIn;
 
 // What link service carries, where the payload has the form that its type calls for.

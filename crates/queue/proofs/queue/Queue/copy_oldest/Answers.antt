@@ -8,5 +8,5 @@ returns g c =
     let l = length-contents q in
     record {
       answer = omega (arith, c.min-n.ensures);
-      out = copied_front q c.args.out.now c.copy-from-slice.new.self c.deref.result.now c.min-n.result c.min-n.ensures c.copy-from-slice.ensures.after c.deref.ensures.value;
+      out = copied_front q c.args.out.now c.copy_from_slice.new.self c.deref.result.now c.min-n.result c.min-n.ensures c.copy_from_slice.ensures.after c.deref.ensures.value;
     }

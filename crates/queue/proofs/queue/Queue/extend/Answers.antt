@@ -11,6 +11,6 @@ returns g c =
     let room : q.count + length items ≤ capacity q = omega arith in
     record {
       answer = extend_ok (contents q) items (capacity q) (omega arith);
-      after = extended q c.deref-mut.result.now c.copy-from-slice.new.self items room c.deref-mut.ensures.value c.copy-from-slice.ensures.after;
+      after = extended q c.deref_mut.result.now c.copy_from_slice.new.self items room c.deref_mut.ensures.value c.copy_from_slice.ensures.after;
       capacity = search rules;
     }

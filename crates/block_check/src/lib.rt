@@ -3,7 +3,7 @@
 #![tactic(auto)]
 
 ghost use Rattle.std.specs.Prelude.{◌≡◌};
-ghost use Rattle.check.specs.Law.{Code, Bytes, Lawful};
+ghost use Rattle.block_check.specs.Law.{Code, Bytes, Lawful};
 
 // A check is a type: it has no state, and its calls need no value of it.
 pub trait Check {
