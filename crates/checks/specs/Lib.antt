@@ -2,4 +2,4 @@ pub mod Sums
 pub mod Crc
 pub mod Shared
 pub mod Steps
-pub mod SumIsCheckLemmas
+pub mod SumSteps

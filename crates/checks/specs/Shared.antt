@@ -4,7 +4,7 @@ use Rattle.std.proofs.Common.{⊎_elim, sym, ◌∙◌, ap, subst, arith}
 use Rattle.std.proofs.ByRecursion.{All-get_or, All-more}
 use Rattle.std.proofs.lemmas.List.{ext_get_or, length-set, get_or-set_same, get_or-set_other, take_all}
 use Rattle.std.proofs.lemmas.Bool.{cases_eq}
-use Rattle.block_check.specs.Law.{Bytes, DifferAt, Tells}
+use Rattle.block_check.specs.Law.{Bytes, DifferAt, Tells, Lawful}
 
 -- the second string is the first with the second's byte written at the place
 pub written : (i : ℕ) (xs ys : List ℕ) → DifferAt i xs ys → ys ≡ slice_set xs i (slice_index ys i)

@@ -4,7 +4,8 @@ use Rattle.std.proofs.Common.{sym, ◌∙◌, ap, le_of_suc-le-suc, not-suc-le-z
 use Rattle.std.proofs.lemmas.Nat.{xor_mod, xor_comm, xor_lt}
 use Rattle.std.specs.Int.Bits.{xor_assoc, xor_self, xor_zero_r}
 use Rattle.std.proofs.lemmas.Bool.Decides.{nat_tests}
-use Rattle.block_check.specs.Law.{Bytes}
+use Rattle.block_check.specs.Law.{Bytes, Lawful}
+use Rattle.checks.specs.Shared.{tells_writes}
 use Rattle.checks.specs.Crc.{shifted, bits, stepped, crc}
 
 undone : (a k : ℕ) → bit_xor (bit_xor a k) k ≡ a
@@ -78,8 +79,11 @@ set_same (x ∷ bs) zero v s hs all hv l e =
 set_same (x ∷ bs) (suc i) v s hs all hv l e =
     set_same bs i v (stepped s x) (stepped_lt s x hs all.0) all.1 hv (le_of_suc-le-suc l) e
 
-pub crc_lt : (bs : List ℕ) → Bytes bs → crc bs < 65536
+crc_lt : (bs : List ℕ) → Bytes bs → crc bs < 65536
 crc_lt bs all = folded_lt bs 0xffff (omega arith) all
 
-pub crc_same : (bs : List ℕ) (i v : ℕ) → Bytes bs → v < 256 → i < length bs → crc (slice_set bs i v) ≡ crc bs → v ≡ slice_index bs i
+crc_same : (bs : List ℕ) (i v : ℕ) → Bytes bs → v < 256 → i < length bs → crc (slice_set bs i v) ≡ crc bs → v ≡ slice_index bs i
 crc_same bs i v all hv l e = set_same bs i v 0xffff (omega arith) all hv l e
+
+pub crc_lawful : Lawful 2 crc
+crc_lawful = record { some = omega arith; few = omega arith; fits = crc_lt; tells = tells_writes crc crc_same }

@@ -2,9 +2,7 @@
 ghost use Rattle.std.specs.Prelude.{◌≡◌};
 ghost use Rattle.block_check.specs.Law.{Bytes};
 ghost use Rattle.checks.specs.Crc.{crc, stepped, shifted};
-ghost use Rattle.std.proofs.Common.{arith};
-ghost use Rattle.checks.specs.Shared.{tells_writes};
-ghost use Rattle.checks.specs.Steps.{crc_lt, crc_same};
+ghost use Rattle.checks.specs.Steps.{crc_lawful};
 
 use block_check::Check;
 
@@ -47,7 +45,7 @@ fn crc_of(bytes: &[u8]) -> u16
 impl Check for LongCheck {
     ghost code = { record { width = 2; value = crc } };
 
-    ghost lawful = { record { some = omega arith; few = omega arith; fits = crc_lt; tells = tells_writes crc crc_same } };
+    ghost lawful = { crc_lawful };
 
     fn width() -> usize {
         2

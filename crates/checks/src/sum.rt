@@ -2,9 +2,7 @@
 ghost use Rattle.std.specs.Prelude.{◌≡◌};
 ghost use Rattle.block_check.specs.Law.{Bytes};
 ghost use Rattle.checks.specs.Sums.{sum_value};
-ghost use Rattle.std.proofs.Common.{arith};
-ghost use Rattle.checks.specs.Shared.{tells_writes};
-ghost use Rattle.checks.specs.SumIsCheckLemmas.{sum_same};
+ghost use Rattle.checks.specs.SumSteps.{sum_lawful};
 
 use block_check::Check;
 
@@ -26,12 +24,7 @@ fn sum_of(bytes: &[u8]) -> u8
 impl Check for SumCheck {
     ghost code = { record { width = 1; value = sum_value } };
 
-    ghost lawful = { record {
-      some = omega arith;
-      few = omega arith;
-      fits = λ bs _. omega arith;
-      tells = tells_writes sum_value sum_same;
-    } };
+    ghost lawful = { sum_lawful };
 
     fn width() -> usize {
         1

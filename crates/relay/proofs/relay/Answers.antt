@@ -9,8 +9,8 @@ use Rattle.relay.proofs.relay.Goals as goal
 pub loop-moved-init : goal.loop-moved-init
 loop-moved-init g c = (refl, sym (append-nil _), passed_none _, refl)
 
-pub move-one-requires : goal.move-one-requires
-move-one-requires g c =
+pub move_one-requires : goal.move_one-requires
+move_one-requires g c =
     let from = g.A.Line.waiting c.args.from.now in
     let to = g.B.Line.waiting c.args.to.now in
     let i = c.loop-moved.-moved in
@@ -24,11 +24,11 @@ pub loop-moved-preserved : goal.loop-moved-preserved
 loop-moved-preserved g c =
     let from = g.A.Line.waiting c.args.from.now in
     let to = g.B.Line.waiting c.args.to.now in
-    let i = c.loop-moved.-moved in
+    let i = c.loop-moved._moved in
     let here : i < length from = omega arith in
     let inv = c.loop-moved.invariant in (
-      c.move-one.ensures.from ∙ (ap later inv.0 ∙ later_is from i here),
-      c.move-one.ensures.to ∙ (ap (λ x. x ++ oldest (g.A.Line.waiting c.loop-moved.from) ∷ []) inv.1 ∙ (ap (λ x. (to ++ take i from) ++ oldest x ∷ []) inv.0 ∙ added_is from i here to)),
-      c.move-one.ensures.buffer ∙ (ap (λ x. over (oldest x) c.loop-moved.buf) inv.0 ∙ (ap (over (oldest (drop i from))) inv.2 ∙ passed_is from i here c.args.buf.now)),
+      c.move_one.ensures.from ∙ (ap later inv.0 ∙ later_is from i here),
+      c.move_one.ensures.to ∙ (ap (λ x. x ++ oldest (g.A.Line.waiting c.loop-moved.from) ∷ []) inv.1 ∙ (ap (λ x. (to ++ take i from) ++ oldest x ∷ []) inv.0 ∙ added_is from i here to)),
+      c.move_one.ensures.buffer ∙ (ap (λ x. over (oldest x) c.loop-moved.buf) inv.0 ∙ (ap (over (oldest (drop i from))) inv.2 ∙ passed_is from i here c.args.buf.now)),
       search rules,
     )

@@ -13,6 +13,6 @@ loop-i-preserved c = rw add-one (c.shift-s.ensures ∙ ap shifted c.loop-i.invar
 pub returns : goal.returns
 unfolding stepped
 returns c =
-    let n : c.loop-i.-i ≡ 8 = omega arith in
+    let n : c.loop-i._i ≡ 8 = omega arith in
     let m : c.args.b * 256 % 65536 ≡ c.args.b * 256 = omega arith in
     cc

@@ -15,8 +15,8 @@ returns g c =
     let fs = acks c.args.to c.args.heard.status in
     let e : fs ≡ fs ++ cond c.args.heard.renew (latest_frames c.args.seat.side c.args.seat.talk.latest) [] = sym (ap (λ (x : List Content). fs ++ x) (cond-false _ _ _ c.if-renew.false) ∙ append-nil fs) in
     record {
-      answer = c.reply-ack-acked.ensures.answer ∙ ap (λ (x : List Content). took line (blocks k x)) e;
-      after = c.reply-ack-acked.ensures.after ∙ ap (λ (x : List Content). puts line (blocks k x)) e;
+      answer = c.reply_ack-acked.ensures.answer ∙ ap (λ (x : List Content). took line (blocks k x)) e;
+      after = c.reply_ack-acked.ensures.after ∙ ap (λ (x : List Content). puts line (blocks k x)) e;
     }
 
 pub returns-then-renew : goal.returns-then-renew
@@ -27,11 +27,11 @@ returns-then-renew g c =
     let fs = acks c.args.to c.args.heard.status in
     let more = latest_frames c.args.seat.side c.args.seat.talk.latest in
     let e : blocks k fs ++ blocks k more ≡ blocks k (fs ++ cond c.args.heard.renew more []) = sym (ap (λ (x : List Content). blocks k (fs ++ x)) (cond-true _ _ _ c.if-renew.true) ∙ map-append (block k) fs more) in
-    let on = c.reply-ack-acked.ensures.after in
-    let said = c.reply-log-in.ensures.answer ∙ ap (λ (x : List (List ℕ)). took x (blocks k more)) on in
+    let on = c.reply_ack-acked.ensures.after in
+    let said = c.reply_log_in.ensures.answer ∙ ap (λ (x : List (List ℕ)). took x (blocks k more)) on in
     record {
       answer =
-          ap (λ n. n + c.reply-log-in.result) c.reply-ack-acked.ensures.answer ∙ (ap (λ n. took line (blocks k fs) + n) said
+          ap (λ n. n + c.reply_log_in.result) c.reply_ack-acked.ensures.answer ∙ (ap (λ n. took line (blocks k fs) + n) said
           ∙ (sym (took_append line (blocks k fs) (blocks k more)) ∙ ap (took line) e));
-      after = c.reply-log-in.ensures.after ∙ (ap (λ (x : List (List ℕ)). puts x (blocks k more)) on ∙ (sym (puts_append line (blocks k fs) (blocks k more)) ∙ ap (puts line) e));
+      after = c.reply_log_in.ensures.after ∙ (ap (λ (x : List (List ℕ)). puts x (blocks k more)) on ∙ (sym (puts_append line (blocks k fs) (blocks k more)) ∙ ap (puts line) e));
     }

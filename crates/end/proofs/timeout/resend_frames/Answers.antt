@@ -9,7 +9,7 @@ use Rattle.outstanding.proofs.Slots.{nth_outside}
 use Rattle.rules.specs.Sending.{blocks, puts, took, builds}
 use Rattle.end.proofs.Resending.{one_took, one_put, one_built}
 use Rattle.end.proofs.timeout.resend_frames.Goals as goal
-use Rattle.end.proofs.timeout.resend_frames.Goals.{in-Some, in-default}
+use Rattle.end.proofs.timeout.resend_frames.Goals.{in-Some, in_default}
 
 pub loop-k-preserved : goal.loop-k-preserved
 loop-k-preserved g c =
@@ -34,7 +34,7 @@ loop-k-preserved g c =
             omega (arith, w.taken-is, w.emit-taken.ensures.bound, c.loop-k.invariant.3),
             c.match-get.auto.scratch ∙ c.loop-k.invariant.4,
           )
-      | in-default w ↦ absurd (omega (arith, nth_outside fs i (w.in-default.ensures.value ∙ seen)))
+      | in_default w ↦ absurd (omega (arith, nth_outside fs i (w.in_default.ensures.value ∙ seen)))
     ]
 
 pub returns : goal.returns

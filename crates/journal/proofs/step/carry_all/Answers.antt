@@ -16,7 +16,7 @@ loop-call-preserved g c =
     let i = c.loop-call.call-index in
     let start = shown g.A.Line g.B.Line c.args.link.now c.args.journal.now c.args.scratch.now in
     let before = shown g.A.Line g.B.Line c.loop-call.link c.loop-call.journal c.loop-call.scratch in
-    let done = c.in-ok-carry.ensures.ok in
+    let done = c.in_ok-carry.ensures.ok in
     let first : Call = record { side = Controller; step = Open } in
     let more = fold_more (goes_on k payloads) start calls i first c.loop-call-test.true in
     (done ∙ (ap (λ (r : Ran). goes_on k payloads r (get_or calls i first)) c.loop-call.invariant.0 ∙ sym more), subst Level (sym done) (stays_level k payloads before _ c.loop-call.invariant.1))

@@ -38,5 +38,5 @@ returns g c =
     let r = shown g.A.Line g.B.Line c.args.link.now c.args.journal.now c.args.scratch.now in
     let o = outcome (answer_of c.perform-answer.result) (world g.A.Line g.B.Line c.perform-answer.new.link) c.perform-answer.new.scratch in
     let e : Entry = record { answer = c.perform-answer.result; controller = c.totals-controller.result; sled = c.totals-sled.result } in
-    let told = ap (map told_of) c.push-reserved.ensures.items ∙ (map_push told_of _ e ∙ ap (λ l. map told_of (vec_items l) ++ told_of e ∷ []) c.note.ensures.entries) in
+    let told = ap (map told_of) c.push_reserved.ensures.items ∙ (map_push told_of _ e ∙ ap (λ l. map told_of (vec_items l) ++ told_of e ∷ []) c.note.ensures.entries) in
     assembled k payloads r c.args.call o _ _ _ _ _ c.perform-answer.ensures c.note.ensures.controller c.note.ensures.sled c.totals-controller.ensures c.totals-sled.ensures told

@@ -10,4 +10,4 @@ pushed bytes later i x e l is inv =
     (rw e (get_or_push bytes x 0 i l ∙ is))
 
 pub loop-i-preserved : goal.loop-i-preserved
-loop-i-preserved c = (search rules, search rules, pushed (vec_items c.loop-i.bytes) _ _ _ c.push-reserved.ensures.items (search rules) refl c.loop-i.invariant.2)
+loop-i-preserved c = (search rules, search rules, pushed (vec_items c.loop-i.bytes) _ _ _ c.push_reserved.ensures.items (search rules) refl c.loop-i.invariant.2)

@@ -28,13 +28,13 @@ loop-i-preserved c =
     let inv = c.loop-i.invariant.2 in
     let long : length frame ≡ 520 = c.loop-i.invariant.1 in
     let k : length (take n frame) ≡ n = length-take-le n frame (search rules) in
-    elim c.match-act-on.branch [
+    elim c.match-act_on.branch [
       | goal.in-Skip w ↦ moved rest w.place-is w.n-is w.frame-is (search rules) long (turned p v xs i f h inv Skip w.in-Skip.ensures)
       | goal.in-Begin w ↦ moved rest w.place-is w.n-is w.frame-is (omega arith) long (turned p v xs i f h inv Begin w.in-Begin.ensures)
       | goal.in-Escape w ↦ moved rest w.place-is w.n-is w.frame-is (search rules) long (turned p v xs i f h inv Escape w.in-Escape.ensures)
       | goal.in-Keep w ↦ moved rest w.place-is w.n-is w.frame-is (omega (arith, w.if-n-lt520.true)) (simp length-set long) (ap (λ z. scanned Inside z rest) (take_more_set frame n w.in-Keep.x (omega (arith, w.if-n-lt520.true))) ∙ kept p v xs i f h inv w.in-Keep.x w.in-Keep.ensures (omega (arith, w.if-n-lt520.true)))
-      | goal.in-Leave·2 w ↦ moved rest w.place-is w.n-is w.frame-is (omega arith) long (empty p v xs i f h inv w.in-Finish.ensures (omega (arith, w.if-n-gt0.false)))
-      | goal.in-Leave·3 w ↦ moved rest w.place-is w.n-is w.frame-is (omega arith) long (full p v xs i f h inv _ w.in-Keep.ensures (omega (arith, w.if-n-lt520.false)))
+      | goal.in-Leave-2 w ↦ moved rest w.place-is w.n-is w.frame-is (omega arith) long (empty p v xs i f h inv w.in-Finish.ensures (omega (arith, w.if-n-gt0.false)))
+      | goal.in-Leave-3 w ↦ moved rest w.place-is w.n-is w.frame-is (omega arith) long (full p v xs i f h inv _ w.in-Keep.ensures (omega (arith, w.if-n-lt520.false)))
       | goal.in-Leave w ↦ moved rest w.place-is w.n-is w.frame-is (omega arith) long (turned p v xs i f h inv Leave w.in-Leave.ensures)
     ]
 

@@ -4,7 +4,7 @@ use Rattle.std.proofs.lemmas.Bool.{cond-true, cond-false}
 use Rattle.wire.specs.Form.{escaped}
 use Rattle.wire.proofs.Writing.{inner_nil, inner_more, escaped_fits, accepted, framed_length}
 use Rattle.wire.proofs.write.measure.Goals as goal
-use Rattle.wire.proofs.write.measure.Goals.{then-is-reserved, else-is-reserved}
+use Rattle.wire.proofs.write.measure.Goals.{then-is_reserved, else-is_reserved}
 
 pub loop-b-init : goal.loop-b-init
 loop-b-init c = (lit≤ tt, rw inner_nil)
@@ -16,14 +16,14 @@ loop-b-preserved c =
     let b = get_or xs i 0 in
     let e = inner_more xs i c.loop-b-test.true in
     let fits = escaped_fits b in
-    let k : c.if-is-reserved.n ≡ length (escaped b) =
-    elim c.if-is-reserved.branch [
-      | then-is-reserved w ↦ w.n-is ∙ sym (ap length (cond-true _ _ _ (sym c.is-reserved.ensures ∙ w.if-is-reserved.true)))
-      | else-is-reserved w ↦ w.n-is ∙ sym (ap length (cond-false _ _ _ (sym c.is-reserved.ensures ∙ w.if-is-reserved.false)))
+    let k : c.if-is_reserved.n ≡ length (escaped b) =
+    elim c.if-is_reserved.branch [
+      | then-is_reserved w ↦ w.n-is ∙ sym (ap length (cond-true _ _ _ (sym c.is_reserved.ensures ∙ w.if-is_reserved.true)))
+      | else-is_reserved w ↦ w.n-is ∙ sym (ap length (cond-false _ _ _ (sym c.is_reserved.ensures ∙ w.if-is_reserved.false)))
     ] in
     (omega arith, simp (e, length-append) (omega arith))
 
 pub returns : goal.returns
 returns c =
-    let fit = (accepted c.args.block.now _ _ c.in-ok-check-length.ensures).0 in
+    let fit = (accepted c.args.block.now _ _ c.in_ok-check_length.ensures).0 in
     ap Ok (c.loop-b.invariant.1 ∙ framed_length c.args.block.now _ c.loop-b-test.false) ∙ sym (cond-false _ _ _ fit)

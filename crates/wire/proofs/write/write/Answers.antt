@@ -13,14 +13,14 @@ loop-b-preserved c =
     let xs = c.args.block.now in
     let i = c.loop-b.b-index in
     let e = inner_more xs i c.loop-b-test.true in
-    let small = (accepted xs _ _ c.in-ok-check-length.ensures).1 in
+    let small = (accepted xs _ _ c.in_ok-check_length.ensures).1 in
     let fits = escaped_fits (get_or xs i 0) in
     (omega arith, simp (e, length-append) (omega arith), c.put-n.ensures.after ∙ grown xs i c.loop-b.n _ c.loop-b.out c.loop-b-test.true c.loop-b.invariant.1 (simp length-set (omega (arith, small))) c.loop-b.invariant.2)
 
 pub returns : goal.returns
 returns c =
     let xs = c.args.block.now in
-    let fit = accepted xs _ _ c.in-ok-check-length.ensures in
+    let fit = accepted xs _ _ c.in_ok-check_length.ensures in
     let room : ltb (length c.args.out.now) 1042 ≡ false = le-ltb _ _ c.if-out-lt1042.false in
     let k = framed_length xs c.loop-b.b-index c.loop-b-test.false in
     let n : c.loop-b.n + 1 ≡ length (framed xs) = omega (arith, c.loop-b.invariant.1, k) in

@@ -2,13 +2,13 @@ use Rattle.std.proofs.Common.{rules}
 use Rattle.rules.specs.Calls.{polls}
 use Rattle.end.proofs.end.End.poll.Goals as goal
 
-pub returns-then-not-has-room : goal.returns-then-not-has-room
+pub returns-then-not-has_room : goal.returns-then-not-has_room
 unfolding polls
-returns-then-not-has-room g c = search rules
+returns-then-not-has_room g c = search rules
 
-pub returns-in-err-n : goal.returns-in-err-n
+pub returns-in_err-n : goal.returns-in_err-n
 unfolding polls
-returns-in-err-n g c = search rules
+returns-in_err-n g c = search rules
 
 pub returns : goal.returns
 unfolding polls

@@ -4,13 +4,13 @@ use Rattle.end.specs.Views.{view}
 use Rattle.end.proofs.Resending.{resends_none, resends_some}
 use Rattle.end.proofs.end.End.timeout.Goals as goal
 
-pub returns-then-not-has-room : goal.returns-then-not-has-room
+pub returns-then-not-has_room : goal.returns-then-not-has_room
 unfolding times_out
-returns-then-not-has-room g c = search rules
+returns-then-not-has_room g c = search rules
 
-pub returns-then-is-idle : goal.returns-then-is-idle
+pub returns-then-is_idle : goal.returns-then-is_idle
 unfolding times_out
-returns-then-is-idle g c = search rules
+returns-then-is_idle g c = search rules
 
 pub returns-then-not-waits : goal.returns-then-not-waits
 unfolding times_out

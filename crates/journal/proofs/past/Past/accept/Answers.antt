@@ -4,5 +4,5 @@ use Rattle.journal.proofs.past.Past.accept.Goals as goal
 
 pub returns-in-Send : goal.returns-in-Send
 returns-in-Send c =
-    let more = pushed _ _ _ _ c.push-reserved.ensures.items c.record.ensures in
+    let more = pushed _ _ _ _ c.push_reserved.ensures.items c.record.ensures in
     search rules

@@ -9,5 +9,5 @@ record-requires c =
 
 pub returns-in-Some : goal.returns-in-Some
 returns-in-Some c =
-    let more = pushed _ _ _ _ c.push-reserved.ensures.items c.record.ensures in
+    let more = pushed _ _ _ _ c.push_reserved.ensures.items c.record.ensures in
     search rules

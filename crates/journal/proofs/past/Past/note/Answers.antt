@@ -14,6 +14,6 @@ pub returns-in-Poll-Ok : goal.returns-in-Poll-Ok
 unfolding with_answer
 returns-in-Poll-Ok c = search rules
 
-pub returns-in-default : goal.returns-in-default
+pub returns-in_default : goal.returns-in_default
 unfolding with_answer
-returns-in-default c = search rules
+returns-in_default c = search rules

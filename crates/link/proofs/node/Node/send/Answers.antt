@@ -20,10 +20,10 @@ returns g c =
     let last = c.send.new.store in
     let k = g.K.Check.code in
     let line = g.B.Line.waiting c.args.outgoing.now in
-    let kept : vec_items (with_items store last) ≡ last = with_items_is store last (c.send.auto.store ∙ c.deref-mut.ensures.len) in
+    let kept : vec_items (with_items store last) ≡ last = with_items_is store last (c.send.auto.store ∙ c.deref_mut.ensures.len) in
     let step = c.send.ensures.step
-    ∙ (ap (λ (s : List ℕ). sends_record k (view n.end s) c.args.tag c.args.payload.now (length c.deref-mut.result.now) line c.args.scratch.now) c.deref-mut.ensures.value
-    ∙ ap (λ (m : ℕ). sends_record k (view n.end (vec_items store)) c.args.tag c.args.payload.now m line c.args.scratch.now) c.deref-mut.ensures.len) in
+    ∙ (ap (λ (s : List ℕ). sends_record k (view n.end s) c.args.tag c.args.payload.now (length c.deref_mut.result.now) line c.args.scratch.now) c.deref_mut.ensures.value
+    ∙ ap (λ (m : ℕ). sends_record k (view n.end (vec_items store)) c.args.tag c.args.payload.now m line c.args.scratch.now) c.deref_mut.ensures.len) in
     let first = ap (λ (s : List ℕ). did (sent c.send.result) (record { end = view c.send.new.self s; line = g.L.Line.waiting n.line; store = vec_len store }) (g.B.Line.waiting c.send.new.outgoing) c.send.new.scratch) kept
     ∙ ap (λ (x : Sending Sent). acted_sending sent (node g.L.Line n) x) step in
-    record { step = first; kept = refused-so c.send.result (λ h. (h.0, kept ∙ (h.1 ∙ c.deref-mut.ensures.value))) c.send.ensures.kept }
+    record { step = first; kept = refused-so c.send.result (λ h. (h.0, kept ∙ (h.1 ∙ c.deref_mut.ensures.value))) c.send.ensures.kept }

@@ -5,12 +5,12 @@ use Rattle.outstanding.specs.Frames.{frames}
 use Rattle.outstanding.proofs.Slots.{length-waiting, frames_clear}
 use Rattle.outstanding.proofs.outstanding.Outstanding.clear.Goals as goal
 
-pub invariant-of-self : goal.invariant-of-self
-invariant-of-self c =
+pub invariant_of-self : goal.invariant_of-self
+invariant_of-self c =
     let o = c.args.self.now in
-    let left = c.drop-oldest.new.self in
-    let room : 8 ≤ capacity left = omega (arith, c.drop-oldest.ensures.capacity, o.room) in
-    let few : length (contents left) ≤ 8 = omega (arith, ap length c.drop-oldest.ensures.after, length-drop c.min-gone.result (contents o.entries), o.few) in
+    let left = c.drop_oldest.new.self in
+    let room : 8 ≤ capacity left = omega (arith, c.drop_oldest.ensures.capacity, o.room) in
+    let few : length (contents left) ≤ 8 = omega (arith, ap length c.drop_oldest.ensures.after, length-drop c.min-gone.result (contents o.entries), o.few) in
     (room, (few, (omega arith, tt)))
 
 pub returns : goal.returns
@@ -18,4 +18,4 @@ unfolding frames
 returns c store =
     let o = c.args.self.now in
     let n = c.args.n in
-    frames_clear o.first n c.min-gone.result (contents o.entries) (contents c.drop-oldest.new.self) store (c.min-gone.ensures ∙ ap (min n) (c.len.ensures.value store ∙ length-waiting o store)) c.drop-oldest.ensures.after
+    frames_clear o.first n c.min-gone.result (contents o.entries) (contents c.drop_oldest.new.self) store (c.min-gone.ensures ∙ ap (min n) (c.len.ensures.value store ∙ length-waiting o store)) c.drop_oldest.ensures.after

@@ -4,7 +4,7 @@ use Rattle.outstanding.specs.Frames.{frames}
 use Rattle.outstanding.proofs.Slots.{length-waiting, nth_outside}
 use Rattle.outstanding.proofs.Finding.{find_hit, find_miss, find_end}
 use Rattle.outstanding.proofs.outstanding.Outstanding.find.Goals as goal
-use Rattle.outstanding.proofs.outstanding.Outstanding.find.Goals.{in-Some+else-entry-number, in-default}
+use Rattle.outstanding.proofs.outstanding.Outstanding.find.Goals.{in-Some+else-entry-number, in_default}
 
 pub returns-then-entry-number : goal.returns-then-entry-number
 unfolding frames
@@ -19,7 +19,7 @@ loop-k-preserved c store =
     let o = c.args.self.now in
     let es = contents o.entries in
     let k = c.loop-k.k in
-    elim c.match-get.branch [ in-Some+else-entry-number w ↦ c.loop-k.invariant store ∙ find_miss c.args.number o.first k es w.in-Some.entry store w.in-Some.ensures w.if-entry-number.false | in-default w ↦ absurd (omega (arith, c.loop-k-test.true, c.len-k-end.ensures.value store, length-waiting o store, nth_outside es k w.in-default.ensures)) ]
+    elim c.match-get.branch [ in-Some+else-entry-number w ↦ c.loop-k.invariant store ∙ find_miss c.args.number o.first k es w.in-Some.entry store w.in-Some.ensures w.if-entry-number.false | in_default w ↦ absurd (omega (arith, c.loop-k-test.true, c.len-k-end.ensures.value store, length-waiting o store, nth_outside es k w.in_default.ensures)) ]
 
 pub returns : goal.returns
 unfolding frames

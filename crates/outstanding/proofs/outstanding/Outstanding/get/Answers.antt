@@ -14,13 +14,13 @@ use Rattle.outstanding.proofs.outstanding.Outstanding.get.Goals as goal
 seen : (store : List ℕ) (f : Option Content) → 4096 ≤ length store → cond (leb 4096 (length store)) f None ≡ f
 seen store f h = cond-true (leb 4096 (length store)) f None (le-leb 4096 (length store) h)
 
-pub returns-in-default : goal.returns-in-default
+pub returns-in_default : goal.returns-in_default
 unfolding frames
-returns-in-default c =
+returns-in_default c =
     let o = c.args.self.now in
     let es = contents o.entries in
     let store = c.args.store.now in
-    let outside : length (frames_from o.first es store) ≤ c.args.k = omega (arith, length-frames o.first es store, nth_outside es c.args.k c.in-default.ensures) in
+    let outside : length (frames_from o.first es store) ≤ c.args.k = omega (arith, length-frames o.first es store, nth_outside es c.args.k c.in_default.ensures) in
     record { value = sym (seen store _ (omega arith) ∙ slice_get_past (frames_from o.first es store) c.args.k outside); fit = tt }
 
 pub start-start-requires : goal.start-start-requires

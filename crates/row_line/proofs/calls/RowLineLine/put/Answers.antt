@@ -3,8 +3,8 @@ use Rattle.queue.specs.Contents.{contents, capacity}
 use Rattle.row_line.specs.Held.{relied, put_few, put_ok, put_adds}
 use Rattle.row_line.proofs.calls.RowLineLine.put.Goals as goal
 
-pub invariant-of-self : goal.invariant-of-self
-invariant-of-self c =
+pub invariant_of-self : goal.invariant_of-self
+invariant_of-self c =
     let q = c.args.self.now.rows in
     (omega (arith, c.push.ensures.capacity), (put_few q c.push.new.self c.of.result (omega arith) (omega arith) c.push.ensures.after, tt))
 

@@ -5,4 +5,4 @@ use Rattle.row_line.proofs.row.Row.of.Goals as goal
 pub returns : goal.returns
 returns c =
     let block = c.args.block.now in
-    ap (take (length block)) c.copy-front.ensures ∙ over_front block _ (length block) refl
+    ap (take (length block)) c.copy_front.ensures ∙ over_front block _ (length block) refl

@@ -12,8 +12,8 @@ returns-then-self-ge-MOST c =
 pub append-requires : goal.append-requires
 append-requires c = record { size = grind (arith, nat_tests); room = room_for c.args.self.now c.if-self-ge-MOST.false }
 
-pub invariant-of-self : goal.invariant-of-self
-invariant-of-self c =
+pub invariant_of-self : goal.invariant_of-self
+invariant_of-self c =
     let e : carried c.args.block.now ≡ true = grind (arith, nat_tests) in
     let k = put_kept c.args.self.now c.append.new.bytes c.append.ensures.capacity c.args.block.now c.append.ensures.after c.if-self-ge-MOST.false e in
     (k.0, (k.1, (k.2, (k.3, tt))))

@@ -11,15 +11,15 @@ returns-then-self-eq0 c =
     let l = length-waits c.args.self.now in
     record { ruled = c.requires; answer = ap Err c.refused-then-self-eq0.ensures ∙ (grind (arith, nat_tests)); after = grind (arith, nat_tests); buffer = grind (arith, nat_tests); bound = tt }
 
-pub split-first-n-requires : goal.split-first-n-requires
-split-first-n-requires c =
+pub split_first-n-requires : goal.split_first-n-requires
+split_first-n-requires c =
     let some : 0 < c.args.self.now.count = omega (arith, c.if-self-eq0.false) in
     record { begins = begins c.args.self.now some; room = c.if-buf-lt-LONGEST.false }
 
-pub invariant-of-self : goal.invariant-of-self
-invariant-of-self c =
+pub invariant_of-self : goal.invariant_of-self
+invariant_of-self c =
     let some : 0 < c.args.self.now.count = omega (arith, c.if-self-eq0.false) in
-    let k = take_kept c.args.self.now some c.split-first-n.new.bytes c.split-first-n.ensures.capacity c.split-first-n.ensures.after in
+    let k = take_kept c.args.self.now some c.split_first-n.new.bytes c.split_first-n.ensures.capacity c.split_first-n.ensures.after in
     (k.0, (k.1, (k.2, (k.3, tt))))
 
 -- a take from blocks of which the first is known
@@ -36,7 +36,7 @@ module _ {ws bs : List (List ℕ)} {b : List ℕ} (f : ws ≡ b ∷ bs) (buf : L
 pub returns : goal.returns
 returns c =
     let x = c.args.self.now in
-    let s = c.split-first-n in
+    let s = c.split_first-n in
     let some : 0 < x.count = omega (arith, c.if-self-eq0.false) in
     let f = waits_first x some in
     let z = size x some in
