@@ -13,7 +13,7 @@ pub move_one-requires : goal.move_one-requires
 move_one-requires g c =
     let from = g.A.Line.waiting c.args.from.now in
     let to = g.B.Line.waiting c.args.to.now in
-    let i = c.loop-moved.-moved in
+    let i = c.loop-moved._moved in
     let room : i < min (length from) (16 - length to) = omega arith in
     let a = ap length c.loop-moved.invariant.0 ∙ length-drop i from in
     let b = ap length c.loop-moved.invariant.1 ∙ length-append to (take i from) in

@@ -6,7 +6,10 @@ use Rattle.row_line.proofs.calls.RowLineLine.put.Goals as goal
 pub invariant_of-self : goal.invariant_of-self
 invariant_of-self c =
     let q = c.args.self.now.rows in
-    (omega (arith, c.push.ensures.capacity), (put_few q c.push.new.self c.of.result (omega arith) (omega arith) c.push.ensures.after, tt))
+    record {
+      long = omega (arith, c.push.ensures.capacity);
+      few = put_few q c.push.new.self c.of.result (omega arith) (omega arith) c.push.ensures.after;
+    }
 
 pub returns : goal.returns
 returns c =

@@ -16,7 +16,7 @@ pub invariant_of-self : goal.invariant_of-self
 invariant_of-self c =
     let e : carried c.args.block.now ≡ true = grind (arith, nat_tests) in
     let k = put_kept c.args.self.now c.append.new.bytes c.append.ensures.capacity c.args.block.now c.append.ensures.after c.if-self-ge-MOST.false e in
-    (k.0, (k.1, (k.2, (k.3, tt))))
+    record { long = k.0; few = k.1; whole = k.2; each = k.3 }
 
 pub returns : goal.returns
 returns c =

@@ -20,7 +20,7 @@ pub invariant_of-self : goal.invariant_of-self
 invariant_of-self c =
     let some : 0 < c.args.self.now.count = omega (arith, c.if-self-eq0.false) in
     let k = take_kept c.args.self.now some c.split_first-n.new.bytes c.split_first-n.ensures.capacity c.split_first-n.ensures.after in
-    (k.0, (k.1, (k.2, (k.3, tt))))
+    record { long = k.0; few = k.1; whole = k.2; each = k.3 }
 
 -- a take from blocks of which the first is known
 module _ {ws bs : List (List ℕ)} {b : List ℕ} (f : ws ≡ b ∷ bs) (buf : List ℕ) (room : 520 ≤ length buf) where
