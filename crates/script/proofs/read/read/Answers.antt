@@ -10,7 +10,7 @@ returns-then-not-is_shaped c = rw c.refused.ensures (misshapen c.args.script.now
 
 pub returns-in_err-calls : goal.returns-in_err-calls
 returns-in_err-calls c =
-    let p = err_from_is_err_and c.from-residual.result c.from-residual.ensures.1 in
+    let p = err_from_is_err_and c.from_residual.result c.from_residual.ensures.1 in
     rw (p.1, p.2) (declines c.args.script.now _ c.is_shaped.ensures c.if-not-is_shaped.false c.from-behind_letters.result (c.from-behind_letters.ensures ∙ c.number_at-3.ensures) _ c.in_err-calls.ensures)
 
 -- what is left to test once the letters are known

@@ -11,7 +11,7 @@ invariant_of-self c =
     let less : length es < 8 = omega (arith, c.requires.room, length-waiting o c.args.store.now) in
     let room : 8 ≤ capacity c.push.new.self = omega (arith, c.push.ensures.capacity, o.room) in
     let few : length (contents c.push.new.self) ≤ 8 = length-added es (contents c.push.new.self) _ (capacity o.entries) less o.room c.push.ensures.after in
-    (room, (few, (o.slot, tt)))
+    record { room = room; few = few; slot = o.slot }
 
 pub returns : goal.returns
 unfolding frames

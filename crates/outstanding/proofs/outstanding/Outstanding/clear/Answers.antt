@@ -11,7 +11,7 @@ invariant_of-self c =
     let left = c.drop_oldest.new.self in
     let room : 8 ≤ capacity left = omega (arith, c.drop_oldest.ensures.capacity, o.room) in
     let few : length (contents left) ≤ 8 = omega (arith, ap length c.drop_oldest.ensures.after, length-drop c.min-gone.result (contents o.entries), o.few) in
-    (room, (few, (omega arith, tt)))
+    record { room = room; few = few; slot = omega arith }
 
 pub returns : goal.returns
 unfolding frames
