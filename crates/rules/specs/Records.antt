@@ -1,6 +1,5 @@
 -- Numbers, and what an end thinks of a frame that is neither an acknowledgement nor a log-in.
 use Rattle.std.specs.Prelude.{ℕ, zero, suc, ◌+◌, ◌-◌, ◌%◌, min, Bool, true, false, cond, not, ◌&&◌, ◌||◌, List, [], ◌∷◌, length, ◌==◌, nat_lt}
-use Rattle.block.specs.declared.heading.Heading.{Heading}
 use Rattle.block.specs.declared.status.Status.TheVariants.{Good, Unsupported, LogInInProgress, IllegalPause, OutOfTurn, BadRecord}
 use Rattle.block.specs.Reading.{Content}
 use Rattle.rules.specs.declared.seat.State.{State}
@@ -41,14 +40,11 @@ logged_in LoggedOut = false
 -- Link service of type 2h gets 07h, of types 3h to Fh 04h. Protocols 1 to 7 get 06h before log-in. In Logged-In,
 -- Protocols 4 to 7 get 04h; then a payload above the agreed size or Exchange ID 0 gets 42h; the expected number is
 -- handed up, a repeat gets 00h only, any other number 40h.
-abbrev pub verdict : Seat → Heading → ℕ → Verdict
-verdict s h size =
-    cond (h.protocol == 0) (cond (h.kind == 2) (Only IllegalPause) (Only Unsupported))
-    (cond (not (logged_in s.state)) (Only LogInInProgress)
-    (cond (nat_lt 3 h.protocol) (Only Unsupported)
-    (cond (nat_lt s.talk.offer.payload size || h.exchange == 0) (Only BadRecord)
-    (cond (h.number == s.flow.expected) Hand
-    (cond (repeats h.number s.flow.expected s.flow.taken) (Only Good) (Only OutOfTurn))))))
-
 unfoldable pub judged : Seat → Content → Verdict
-judged s f = verdict s f.heading (length f.payload)
+judged s f =
+    cond (f.heading.protocol == 0) (cond (f.heading.kind == 2) (Only IllegalPause) (Only Unsupported))
+    (cond (not (logged_in s.state)) (Only LogInInProgress)
+    (cond (nat_lt 3 f.heading.protocol) (Only Unsupported)
+    (cond (nat_lt s.talk.offer.payload (length f.payload) || f.heading.exchange == 0) (Only BadRecord)
+    (cond (f.heading.number == s.flow.expected) Hand
+    (cond (repeats f.heading.number s.flow.expected s.flow.taken) (Only Good) (Only OutOfTurn))))))

@@ -1,6 +1,6 @@
 // What an end thinks of a frame that is neither an acknowledgement nor a log-in.
-ghost use Rattle.std.specs.Prelude.{◌≡◌};
-ghost use Rattle.rules.specs.Records.{after, repeats, took_one, logged_in, verdict};
+ghost use Rattle.std.specs.Prelude.{◌≡◌, ℕ, List, length};
+ghost use Rattle.rules.specs.Records.{after, repeats, took_one, logged_in, judged};
 
 use crate::seat::{Flow, Seat, State, Verdict};
 use block::heading::Heading;
@@ -42,9 +42,10 @@ impl Flow {
 }
 
 impl Seat {
-    // By protocol, type, size and number, one status a case.
+    // By protocol, type, size and number, one status a case; of the payload its size alone matters.
+    #[tactic(auto, unfolding(crate::specs::Records::judged))]
     pub fn judge(self, heading: Heading, size: usize) -> Verdict
-        ensures { result ≡ verdict self heading size }
+        ensures { (payload : List ℕ) → length payload ≡ size → result ≡ judged self (record { heading = heading; payload = payload }) }
     {
         let agreed = usize::from(self.talk.offer.payload);
         match (heading.protocol, heading.kind, size, heading.number) {

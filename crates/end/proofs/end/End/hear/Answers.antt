@@ -1,4 +1,4 @@
-use Rattle.std.proofs.Common.{rules}
+use Rattle.std.proofs.Common.{refl, rules}
 use Rattle.rules.specs.Ends.{hears}
 use Rattle.rules.specs.Records.{judged}
 use Rattle.end.proofs.end.End.hear.Goals as goal
@@ -13,8 +13,8 @@ returns-in-0-eq1 c = search rules
 
 pub returns-in-Only : goal.returns-in-Only
 unfolding hears judged
-returns-in-Only c = search rules
+returns-in-Only c = let j = c.in-Only.ensures c.args.frame.payload.now refl in search rules
 
 pub returns-in-Hand : goal.returns-in-Hand
 unfolding hears judged
-returns-in-Hand c = search rules
+returns-in-Hand c = let j = c.in-Hand.ensures c.args.frame.payload.now refl in search rules
