@@ -1,6 +1,6 @@
 -- What a check owes: a width of one or two bytes, values of that width, and that one changed byte shows.
 use Rattle.std.specs.Prelude.{◌≡◌, ℕ, ◌^◌, ◌<◌, ◌≤◌, List, length, ◌≢◌, slice_index, slice_index_or}
-use Rattle.std.specs.List.{AllByRecursion as All}
+use Rattle.std.specs.List.{AllByRecursion}
 
 -- a check by its width and its values
 pub record Code : Type 0 where
@@ -8,7 +8,7 @@ pub record Code : Type 0 where
   pub value : List ℕ → ℕ
 
 abbrev pub Bytes : List ℕ → Type 0
-Bytes bs = All (λ b. b < 256) bs
+Bytes bs = AllByRecursion (λ b. b < 256) bs
 
 -- Two strings of equal length that differ at the place i and nowhere else.
 pub record DifferAt (i : ℕ) (xs ys : List ℕ) : Type 0 where

@@ -1,4 +1,5 @@
--- What both checks lean on: a byte that differs is a byte written, and a loop that has read a slice knows that it holds bytes.
+-- A proof that stands here since the checks' laws cite it: a byte that differs is a byte written, and a loop that has read a slice
+-- knows that it holds bytes.
 use Rattle.std.specs.Prelude.{◌≡◌, ℕ, ◌+◌, ◌<◌, ◌≤◌, List, length, take, slice_index, slice_index_or, slice_set}
 use Rattle.std.proofs.Common.{⊎_elim, sym, ◌∙◌, ap, subst, arith}
 use Rattle.std.proofs.ByRecursion.{All-get_or, All-more}

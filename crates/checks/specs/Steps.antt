@@ -1,4 +1,5 @@
--- No step of the long check takes two states or two bytes to one state, so a byte that differs stays to be seen.
+-- A proof that stands here since the long check's law cites it: no step takes two states or two bytes to one state, so a byte that
+-- differs stays to be seen.
 use Rattle.std.specs.Prelude.{◌≡◌, ℕ, zero, suc, ◌*◌, ◌%◌, ◌<◌, List, [], ◌∷◌, length, fold, bit_xor, slice_index, slice_set}
 use Rattle.std.proofs.Common.{sym, ◌∙◌, ap, le_of_suc-le-suc, not-suc-le-zero, arith}
 use Rattle.std.proofs.lemmas.Nat.{xor_mod, xor_comm, xor_lt}

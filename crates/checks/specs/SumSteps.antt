@@ -1,4 +1,4 @@
--- The sum check keeps the law of a check.
+-- A proof that stands here since the sum check's law cites it.
 use Rattle.std.specs.Prelude.{◌≡◌, ℕ, ◌<◌, List, length, slice_index, slice_index_or, slice_set}
 use Rattle.std.proofs.Common.{arith}
 use Rattle.std.proofs.ByRecursion.{All-get_or}

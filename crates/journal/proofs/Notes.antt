@@ -7,7 +7,7 @@ use Rattle.rules.specs.declared.seat.Side.TheVariants.{Controller, Sled}
 use Rattle.rules.specs.declared.call.Call.{Call as Asked}
 use Rattle.rules.specs.Links.{Act, open_link, send, poll, timeout, lose, spoil, Answer, opened, sent, polled, timed_out, lost, Entry as Written, stepped, entry}
 use Rattle.rules.specs.Steps.{act_of}
-use Rattle.law.specs.Journals.{Past as Told-past, sent_by, with_answer, same_side, with_entry}
+use Rattle.law.specs.Journals.{Past as ToldPast, sent_by, with_answer, same_side, with_entry}
 use Rattle.link.specs.Worlds.{Outcome, steps, wrote}
 use Rattle.journal.specs.declared.entry.Totals.{Totals}
 use Rattle.journal.specs.declared.past.Past.{Past}
@@ -27,7 +27,7 @@ sent_one timeout = omega arith
 sent_one lose = omega arith
 sent_one (spoil p d) = omega arith
 
-answer_one : (p : Told-past) (act : Act) (scratch : List ℕ) (a : Answer) → length (with_answer p act scratch a).accepted ≤ length p.accepted + 1
+answer_one : (p : ToldPast) (act : Act) (scratch : List ℕ) (a : Answer) → length (with_answer p act scratch a).accepted ≤ length p.accepted + 1
 unfolding with_answer
 answer_one p act scratch (opened r) = omega arith
 answer_one p act scratch (sent (Ok s)) = omega (arith, length-append p.accepted (sent_by act), sent_one act)
@@ -37,7 +37,7 @@ answer_one p act scratch (polled (Err e)) = omega arith
 answer_one p act scratch (timed_out r) = omega arith
 answer_one p act scratch (lost r) = omega arith
 
-entry_one : (side : Side) (p : Told-past) (e : Written) → length (with_entry side p e).accepted ≤ length p.accepted + 1
+entry_one : (side : Side) (p : ToldPast) (e : Written) → length (with_entry side p e).accepted ≤ length p.accepted + 1
 entry_one side p e = by_test (same_side side e.side) where
   by_test : (b : Bool) → length (cond b (with_answer p e.act e.scratch e.answer) p).accepted ≤ length p.accepted + 1
   by_test true = answer_one p e.act e.scratch e.answer
@@ -66,7 +66,7 @@ module _ (k : Code) (payloads : List ℕ) (r : Ran) (c : Asked) where
   pub written_down : (o : Outcome) → o ≡ done → noted o ≡ entry k r.world (call_in payloads c r.scratch)
   written_down o x = ap noted x
 
-  pub assembled : (o : Outcome) (p q : Told-past) (here there : Totals) (told : List Told) → o ≡ done →
+  pub assembled : (o : Outcome) (p q : ToldPast) (here there : Totals) (told : List Told) → o ≡ done →
       p ≡ with_entry Controller r.controller (noted o) → q ≡ with_entry Sled r.sled (noted o) →
       here ≡ record { outstanding = length o.world.controller.end.outstanding; handed = length p.handed } →
       there ≡ record { outstanding = length o.world.sled.end.outstanding; handed = length q.handed } →

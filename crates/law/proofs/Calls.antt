@@ -1,6 +1,6 @@
 -- Each call at an end keeps the invariant of the link.
 use Rattle.std.proofs.Common.{◌≡◌, ℕ, suc, ◌+◌, ◌<◌, Bool, true, false, eqb, ltb, leb, ◌⊎◌, List, [], ◌∷◌, ◌++◌, length, take, drop, Some, None, Ok, Option, Result, sym, refl, ap, ◌∙◌, subst, inl, inr, arith}
-use Rattle.std.specs.List.{AllByRecursion as All}
+use Rattle.std.specs.List.{AllByRecursion}
 use Rattle.std.proofs.ByRecursion.{All-drop, All-push}
 use Rattle.std.proofs.lemmas.Bool.{ltb-true, lt-ltb, and_parts, cond_both, ne_eqb}
 use Rattle.std.proofs.lemmas.Bool.Decides.{nat_tests}
@@ -36,12 +36,12 @@ use Rattle.law.proofs.States.{not_login, logged_in_is}
 record_idle : (n : ℕ) (r : Record) → 0 < r.tag.protocol → confirms (framed n r) ≡ false
 record_idle n r h = rw (ne_eqb r.tag.protocol 0 (λ z. omega arith)) refl
 
-frames_clean : (m a : Parameters) (k : ℕ) (rs : List Record) → All Fit rs → All (Clean m a) (frames_from k rs)
+frames_clean : (m a : Parameters) (k : ℕ) (rs : List Record) → AllByRecursion Fit rs → AllByRecursion (Clean m a) (frames_from k rs)
 unfolding frames_from
 frames_clean m a k [] h = tt
 frames_clean m a k (r ∷ rs) h = (clean_record (number k) r (number_byte k) h.0, frames_clean m a (suc k) rs h.1)
 
-frames_idle : (k : ℕ) (rs : List Record) → All Fit rs → All (λ q. confirms q ≡ false) (frames_from k rs)
+frames_idle : (k : ℕ) (rs : List Record) → AllByRecursion Fit rs → AllByRecursion (λ q. confirms q ≡ false) (frames_from k rs)
 unfolding frames_from
 frames_idle k [] h = tt
 frames_idle k (r ∷ rs) h = (record_idle (number k) r h.0.carried, frames_idle (suc k) rs h.1)
@@ -81,9 +81,9 @@ module _ (k : Code) (law : Lawful k.width k.value) (m a b : Parameters) (n : Nod
 
   module _ (ins outs : List Content) (v : Inv k m a b (place n p) f ins outs) where
     -- a call that takes no block and accepts no record
-    goes_out : (e : End) (fs : List Content) → sender e ≡ sender n.end → receiver e ≡ receiver n.end → SeatOk m a e.seat → All (Clean m a) fs
+    goes_out : (e : End) (fs : List Content) → sender e ≡ sender n.end → receiver e ≡ receiver n.end → SeatOk m a e.seat → AllByRecursion (Clean m a) fs
         → Way m.offset p.accepted p.cleared (sender n.end) f.past.handed (receiver f.end) (puts outs fs) ins
-        → All (λ q. confirms q ≡ false) fs → Stands k m a b (record { end = e; line = n.line; past = p }) (far_with k f fs)
+        → AllByRecursion (λ q. confirms q ≡ false) fs → Stands k m a b (record { end = e; line = n.line; past = p }) (far_with k f fs)
     goes_out e fs es er ok clean out idles =
         led_on law e n.line p ins fs v v.in_line v.in_clean ok clean (rw es out) (rw er (way_puts_back fs idles v.back)) v.here_records
 
@@ -107,9 +107,9 @@ module _ (k : Code) (law : Lawful k.width k.value) (m a b : Parameters) (n : Nod
         (λ _. (ins, outs, v))
 
     -- timeout
-    resends_kept : (scratch : List ℕ) (fs : List Content) → All (Clean m a) fs
+    resends_kept : (scratch : List ℕ) (fs : List Content) → AllByRecursion (Clean m a) fs
         → Way m.offset p.accepted p.cleared (sender n.end) f.past.handed (receiver f.end) (puts outs fs) ins
-        → All (λ q. confirms q ≡ false) fs → After timeout (acted_sending timed_out n (resends k fs n.end f.line scratch))
+        → AllByRecursion (λ q. confirms q ≡ false) fs → After timeout (acted_sending timed_out n (resends k fs n.end f.line scratch))
     unfolding with_answer
     resends_kept scratch [] clean out idles = (ins, outs, v)
     resends_kept scratch (x ∷ xs) clean out idles =

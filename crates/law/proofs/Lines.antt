@@ -1,6 +1,6 @@
 -- A line of frames, some of which stand for a place: no place lags more than w behind one that went before it.
 use Rattle.std.proofs.Common.{◌≡◌, ℕ, suc, ◌+◌, ◌%◌, ◌<◌, ◌≤◌, max, Bool, true, false, cond, ltb, List, [], ◌∷◌, ◌++◌, length, sym, ◌∙◌, arith}
-use Rattle.std.specs.List.{AllByRecursion as All}
+use Rattle.std.specs.List.{AllByRecursion}
 use Rattle.std.proofs.ByRecursion.{All-push}
 use Rattle.std.proofs.lemmas.Bool.{false≢true, cond_both}
 use Rattle.block.specs.Reading.{Content}
@@ -31,10 +31,10 @@ unfolding put
 put_both P line x taken lost = cond_both (ltb (length line) 16) (line ++ x ∷ []) line P (λ _. taken) (λ _. lost)
 
 -- what is put keeps a property of each frame
-pub all_puts : (P : Content → Type 0) (xs ys : List Content) → All P xs → All P ys → All P (puts xs ys)
+pub all_puts : (P : Content → Type 0) (xs ys : List Content) → AllByRecursion P xs → AllByRecursion P ys → AllByRecursion P (puts xs ys)
 unfolding puts
 all_puts P xs [] a b = a
-all_puts P xs (y ∷ ys) a b = all_puts P (put xs y) ys (put_both (All P) xs y (All-push P xs y a b.0) a) b.1
+all_puts P xs (y ∷ ys) a b = all_puts P (put xs y) ys (put_both (AllByRecursion P) xs y (All-push P xs y a b.0) a) b.1
 
 -- A frame that passes the test has a place d below `top`, and `low ≤ d + w`, where `low` is above each place that came
 -- before it.
@@ -83,7 +83,7 @@ module _ {test : Content → Bool} where
   pub line_put : {Fits : ℕ → Content → Type 0} {w top low : ℕ} {xs : List Content} (x : Content) (d : ℕ) → d < top → low ≤ top → top ≤ d + w → Fits d x → Line test Fits w top low xs → Line test Fits w top low (put xs x)
   line_put {Fits} {w} {top} {low} {xs} x d below lows near fits l = put_both (Line test Fits w top low) xs x (line_last x d below lows near fits l) l
 
-  pub line_puts_skip : {Fits : ℕ → Content → Type 0} {w top low : ℕ} (ys : List Content) {xs : List Content} → All (λ y. test y ≡ false) ys → Line test Fits w top low xs → Line test Fits w top low (puts xs ys)
+  pub line_puts_skip : {Fits : ℕ → Content → Type 0} {w top low : ℕ} (ys : List Content) {xs : List Content} → AllByRecursion (λ y. test y ≡ false) ys → Line test Fits w top low xs → Line test Fits w top low (puts xs ys)
   unfolding puts
   line_puts_skip [] a l = l
   line_puts_skip {Fits} {w} {top} {low} (y ∷ ys) {xs} a l = line_puts_skip ys a.1 (put_both (Line test Fits w top low) xs y (line_last_skip y a.0 l) l)

@@ -1,6 +1,6 @@
 -- The invariant of a link, and that whatever an end hears keeps it.
 use Rattle.std.proofs.Common.{◌≡◌, ℕ, ◌+◌, ◌≤◌, Bool, true, false, not, ◌&&◌, ◌||◌, eqb, ltb, leb, List, [], ◌∷◌, ◌++◌, length, Some, None, Option, refl, ap, ◌∙◌, add-zero, arith}
-use Rattle.std.specs.List.{AllByRecursion as All}
+use Rattle.std.specs.List.{AllByRecursion}
 use Rattle.std.proofs.lemmas.List.{append-nil}
 use Rattle.std.proofs.lemmas.Bool.{eqb-true, leb-false, and_from, or_parts, not_from_false, not-false, cond_both, ne_eqb}
 use Rattle.block_check.specs.Law.{Code, Lawful}
@@ -41,12 +41,12 @@ pub record Inv (k : Code) (m a b : Parameters) (n f : Place) (ins outs : List Co
   pub there : SeatOk m b f.end.seat
   pub in_line : n.line ≡ blocks k ins
   pub out_line : f.line ≡ blocks k outs
-  pub in_clean : All (Clean m b) ins
-  pub out_clean : All (Clean m a) outs
+  pub in_clean : AllByRecursion (Clean m b) ins
+  pub out_clean : AllByRecursion (Clean m a) outs
   pub out : Way m.offset n.past.accepted n.past.cleared (sender n.end) f.past.handed (receiver f.end) outs ins
   pub back : Way m.offset f.past.accepted f.past.cleared (sender f.end) n.past.handed (receiver n.end) ins outs
-  pub here_records : All Fit n.past.accepted
-  pub there_records : All Fit f.past.accepted
+  pub here_records : AllByRecursion Fit n.past.accepted
+  pub there_records : AllByRecursion Fit f.past.accepted
 
 abbrev pub Stands : Code → Parameters → Parameters → Parameters → Place → Place → Type 0
 Stands k m a b n f = (ins : List Content) × (outs : List Content) × Inv k m a b n f ins outs
@@ -73,16 +73,16 @@ swapped k m a b n f (ins, outs, v) = (
 abbrev pub far_with : Code → Place → List Content → Place
 far_with k f fs = record { end = f.end; line = puts-blocks f.line (blocks k fs); past = f.past }
 
-all_sized : (m a : Parameters) (fs : List Content) → All (Clean m a) fs → All Sized fs
+all_sized : (m a : Parameters) (fs : List Content) → AllByRecursion (Clean m a) fs → AllByRecursion Sized fs
 all_sized m a [] h = tt
 all_sized m a (f ∷ fs) h = (h.0.sized, all_sized m a fs h.1)
 
 -- a call of n that left it at e with the past p, left the frames `left` on its line, and sent the frames fs
 pub led_on : {k : Code} {m a b : Parameters} {n f : Place} {ins outs : List Content} → Lawful k.width k.value → (e : End) (line : List (List ℕ)) (p : Past) (left fs : List Content)
-    → Inv k m a b n f ins outs → line ≡ blocks k left → All (Clean m b) left → SeatOk m a e.seat → All (Clean m a) fs
+    → Inv k m a b n f ins outs → line ≡ blocks k left → AllByRecursion (Clean m b) left → SeatOk m a e.seat → AllByRecursion (Clean m a) fs
     → Way m.offset p.accepted p.cleared (sender e) f.past.handed (receiver f.end) (puts outs fs) left
     → Way m.offset f.past.accepted f.past.cleared (sender f.end) p.handed (receiver e) left (puts outs fs)
-    → All Fit p.accepted → Stands k m a b (record { end = e; line = line; past = p }) (far_with k f fs)
+    → AllByRecursion Fit p.accepted → Stands k m a b (record { end = e; line = line; past = p }) (far_with k f fs)
 led_on {k} {m} {a} {b} {n} {f} {ins} {outs} law e line p left fs v is clean ok fs-clean out back fit = (
   left,
   puts outs fs,
@@ -104,11 +104,11 @@ led_on {k} {m} {a} {b} {n} {f} {ins} {outs} law e line p left fs v is clean ok f
 abbrev Idle : Content → Type 0
 Idle q = (carries q ≡ false) × (confirms q ≡ false)
 
-idle_carries : (qs : List Content) → All Idle qs → All (λ q. carries q ≡ false) qs
+idle_carries : (qs : List Content) → AllByRecursion Idle qs → AllByRecursion (λ q. carries q ≡ false) qs
 idle_carries [] h = tt
 idle_carries (q ∷ qs) h = (h.0.0, idle_carries qs h.1)
 
-idle_confirms : (qs : List Content) → All Idle qs → All (λ q. confirms q ≡ false) qs
+idle_confirms : (qs : List Content) → AllByRecursion Idle qs → AllByRecursion (λ q. confirms q ≡ false) qs
 idle_confirms [] h = tt
 idle_confirms (q ∷ qs) h = (h.0.1, idle_confirms qs h.1)
 
@@ -131,7 +131,7 @@ module _ (k : Code) (law : Lawful k.width k.value) (m a b : Parameters) (n f : P
   small : m.offset ≤ 8
   small = omega (arith, bd)
 
-  quiet_left : (e : End) (fs : List Content) → sender e ≡ sender n.end → receiver e ≡ receiver n.end → SeatOk m a e.seat → All Idle fs → All (Clean m a) fs → Left e fs [] 0
+  quiet_left : (e : End) (fs : List Content) → sender e ≡ sender n.end → receiver e ≡ receiver n.end → SeatOk m a e.seat → AllByRecursion Idle fs → AllByRecursion (Clean m a) fs → Left e fs [] 0
   quiet_left e fs es er ok idle clean =
       led_on law e (blocks k gs) _ gs fs v refl v.in_clean.1 ok clean
       (rw (add-zero n.past.cleared, es) (way_puts_forward fs (idle_carries fs idle) (way_rest_back v.out)))

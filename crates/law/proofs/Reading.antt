@@ -1,7 +1,7 @@
 -- Frames as blocks on a line and in a scratch: a reader gets back what was sealed, and after a change of one byte it
 -- reads a status other than 00h.
 use Rattle.std.proofs.Common.{◌≡◌, ℕ, ◌+◌, ◌%◌, ◌<◌, ◌≤◌, true, false, cond, ltb, ◌⊎◌, List, [], ◌∷◌, ◌++◌, length, get_or, take, drop, set, is_ok, Ok, Err, Result, sym, refl, ap, ◌∙◌, subst, inl, inr, ⊎_elim, mod-lt, arith}
-use Rattle.std.specs.List.{AllByRecursion as All}
+use Rattle.std.specs.List.{AllByRecursion}
 use Rattle.std.proofs.ByRecursion.{All-set}
 use Rattle.std.proofs.lemmas.List.{append_assoc, length-append, length-map, length-set, get_or_append_left, get_or-set_same, get_or-set_other, set-get_or, set-append_left, take_at, map_push}
 use Rattle.std.proofs.lemmas.Bool.{cases_eq, cond_both, cond-true, true≢false}
@@ -111,7 +111,7 @@ module _ (k : Code) (law : Lawful k.width k.value) where
       rw (block_carried k law g s, length-map fs (block k))
       (cond_both (ltb (length fs) 16) (fs ++ g ∷ []) fs (λ l. cond (ltb (length fs) 16) (blocks k fs ++ block k g ∷ []) (blocks k fs) ≡ blocks k l) (λ h. cond-true _ _ _ h ∙ sym (map_push (block k) fs g)) (λ h. rw h))
 
-  pub puts_sealed : (fs gs : List Content) → All Sized gs → puts-blocks (blocks k fs) (blocks k gs) ≡ blocks k (puts fs gs)
+  pub puts_sealed : (fs gs : List Content) → AllByRecursion Sized gs → puts-blocks (blocks k fs) (blocks k gs) ≡ blocks k (puts fs gs)
   unfolding puts
   puts_sealed fs [] a = refl
   puts_sealed fs (g ∷ gs) a = ap (λ l. puts-blocks l (blocks k gs)) (put_sealed fs g a.0) ∙ puts_sealed (put fs g) gs a.1

@@ -2,7 +2,7 @@
 -- from 0, and each number is that of a place.
 use Rattle.std.proofs.Common.{◌≡◌, ℕ, zero, suc, ◌+◌, ◌-◌, ◌%◌, ◌<◌, ◌≤◌, min, Bool, true, false, cond, not, ◌&&◌, eqb, ltb, ◌⊎◌, List, [], ◌∷◌, ◌++◌, length, get_or, take, drop, sym, refl, ap, ◌∙◌, inl, inr, arith, length-drop, take_all, drop-drop}
 use lib.Seq.{take-append-le, take-append_seam, drop-append-le}
-use Rattle.std.specs.List.{AllByRecursion as All}
+use Rattle.std.specs.List.{AllByRecursion}
 use Rattle.std.proofs.lemmas.List.{length_push}
 use Rattle.std.proofs.lemmas.Bool.{eqb-true, ltb-true, and_parts}
 use Rattle.block.specs.declared.status.Status.TheVariants.{Good}
@@ -207,10 +207,10 @@ module _ {w : ℕ} {acc : List Record} {cleared : ℕ} {s : Sender} {handed : Li
   pub way_rest_back : {g : Content} {fs bs : List Content} → Way w acc cleared s handed r fs (g ∷ bs) → Way w acc cleared s handed r fs bs
   way_rest_back y = way_lines y y.frames (line_rest y.acks)
 
-  pub way_puts_forward : {fs bs : List Content} (qs : List Content) → All (λ q. carries q ≡ false) qs → Way w acc cleared s handed r fs bs → Way w acc cleared s handed r (puts fs qs) bs
+  pub way_puts_forward : {fs bs : List Content} (qs : List Content) → AllByRecursion (λ q. carries q ≡ false) qs → Way w acc cleared s handed r fs bs → Way w acc cleared s handed r (puts fs qs) bs
   way_puts_forward qs a y = way_lines y (line_puts_skip qs a y.frames) y.acks
 
-  pub way_puts_back : {fs bs : List Content} (qs : List Content) → All (λ q. confirms q ≡ false) qs → Way w acc cleared s handed r fs bs → Way w acc cleared s handed r fs (puts bs qs)
+  pub way_puts_back : {fs bs : List Content} (qs : List Content) → AllByRecursion (λ q. confirms q ≡ false) qs → Way w acc cleared s handed r fs bs → Way w acc cleared s handed r fs (puts bs qs)
   way_puts_back qs a y = way_lines y y.frames (line_puts_skip qs a y.acks)
 
   -- a record is accepted

@@ -1,6 +1,6 @@
 -- The law of whole runs.
 use Rattle.std.specs.Prelude.{◌≡◌, ℕ, ◌+◌, ◌≤◌, true, List, [], ◌∷◌, ◌++◌, length}
-use Rattle.std.specs.List.{AllByRecursion as All}
+use Rattle.std.specs.List.{AllByRecursion}
 use Rattle.block_check.specs.Law.{Code, Bytes, Lawful}
 use Rattle.login.specs.declared.Parameters.{Parameters}
 use Rattle.rules.specs.declared.seat.Side.TheVariants.{Controller, Sled}
@@ -49,7 +49,7 @@ OfBytes lose = Unit {0}
 OfBytes (spoil p d) = Unit {0}
 
 abbrev pub CallsOfBytes : List Call → Type 0
-CallsOfBytes calls = All (λ c. OfBytes c.act) calls
+CallsOfBytes calls = AllByRecursion (λ c. OfBytes c.act) calls
 
 -- For every lawful check, every two limits in range and every list of calls on a fresh link.
 abbrev pub RunsFaithful : Type 0

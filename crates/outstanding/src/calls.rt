@@ -157,7 +157,7 @@ mod tests {
             return Err(Fail::new("one is missing"));
         };
         assert_eq!(rt; frame.heading.number, 12);
-        assert!(rt; frame.payload == &[12]);
+        assert!(rt; frame.payload == [12].as_slice());
         assert!(rt; sent.get(8, slots).is_none());
         assert!(rt; sent.get(7, &slots[1..4096]).is_none());
         Ok(())

@@ -13,7 +13,7 @@ use Rattle.link.specs.declared.parts.Parts.{Parts}
 use Rattle.link.specs.Making.{made_of, first_world, Because}
 use Rattle.script.specs.Format.{Asked, shaped, letters, arguments, calls_of, asked, known, read_script}
 use Rattle.journal.specs.declared.carry.Stopped.{Stopped}
-use Rattle.journal.specs.declared.carry.Stopped.TheVariants.{Unmade as Not-made, OutOfMemory as Stopped-short}
+use Rattle.journal.specs.declared.carry.Stopped.TheVariants.{Unmade as NotMade, OutOfMemory as StoppedShort}
 use Rattle.journal.specs.Outcomes.{StoppedAs}
 use Rattle.rehearsal.specs.Rehearsals.{Halts, not_made_as, stops_as}
 
@@ -66,8 +66,8 @@ makes_link a b p e f g = makes (vec_len p.controller.store) (vec_len p.sled.stor
 -- so the only way to stop is for want of memory
 pub halts : {A B K : Type 0} (k : Code) (a : Ghosts A) (b : Ghosts B) (p : Parts A B K) (calls : List Call) (payloads scratch left s : List ℕ) (w : World) → shaped s ≡ true → made_of a b p ≡ Ok w →
     (stopped : Stopped A B K) → StoppedAs k a b p calls payloads scratch stopped left → Halts s (stops_as stopped)
-halts k a b p calls payloads scratch left s w shape is (Stopped-short r e) z = shape
-halts k a b p calls payloads scratch left s w shape is (Not-made n) z = by_cause n.why z.1.0 where
+halts k a b p calls payloads scratch left s w shape is (StoppedShort r e) z = shape
+halts k a b p calls payloads scratch left s w shape is (NotMade n) z = by_cause n.why z.1.0 where
   by_cause : (why : Unmade) → Because a b p why → Halts s (not_made_as why)
   by_cause (Declined why) x = absurd (false≢true (ap is_ok (sym x ∙ is)))
   by_cause (Wanting e) x = shape

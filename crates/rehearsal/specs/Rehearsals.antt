@@ -11,7 +11,7 @@ use Rattle.script.specs.Patterns.{Patterned}
 use Rattle.script.specs.Format.{Asked, shaped, read_script}
 use Rattle.journal.specs.declared.carry.Run.{Run}
 use Rattle.journal.specs.declared.carry.Stopped.{Stopped}
-use Rattle.journal.specs.declared.carry.Stopped.TheVariants.{Unmade as Not-made, OutOfMemory as Stopped-short}
+use Rattle.journal.specs.declared.carry.Stopped.TheVariants.{Unmade as NotMade, OutOfMemory as StoppedShort}
 use Rattle.journal.specs.Runs.{begun, ran, shown, FaithfulSoFar}
 use Rattle.rehearsal.specs.declared.rehearse.Memory.{Memory}
 use Rattle.rehearsal.specs.declared.rehearse.Halted.{Halted}
@@ -27,8 +27,8 @@ not_made_as (Declined why) = Refused why
 not_made_as (Wanting e) = OutOfMemory e
 
 abbrev pub stops_as : {A B K : Type 0} → Stopped A B K → Halted
-stops_as (Not-made n) = not_made_as n.why
-stops_as (Stopped-short r e) = OutOfMemory e
+stops_as (NotMade n) = not_made_as n.why
+stops_as (StoppedShort r e) = OutOfMemory e
 
 -- stores of 4,096 bytes, a scratch of 520, and the pattern
 pub record Ready (m : Memory) : Type 0 where

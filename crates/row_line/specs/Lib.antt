@@ -1,2 +1,2 @@
 pub mod Waiting
-pub mod Held
+pub mod Relied

@@ -4,7 +4,7 @@ ghost use Rattle.refusal.specs.Buffers.{over};
 ghost use Rattle.refusal.specs.declared.Reason.TheVariants.{TooShort};
 ghost use Rattle.line.specs.Blocks.{refusal};
 ghost use Rattle.row_line.specs.Waiting.{block_of, waits, relies};
-ghost use Rattle.row_line.specs.Held.{relied};
+ghost use Rattle.row_line.specs.Relied.{relied};
 
 use crate::row::Row;
 use crate::rows::RowLine;

@@ -57,7 +57,7 @@ mod tests {
             &mut out,
         )?;
         assert_eq!(rt; n, 1);
-        assert!(rt; rest == [0x55]);
+        assert!(rt; rest == [0x55].as_slice());
         assert!(rt; out[0..2] == [0x03, 0xee]);
         Ok(())
     }

@@ -1,1 +1,3 @@
 pub mod Window
+pub mod Flat
+pub mod Kept

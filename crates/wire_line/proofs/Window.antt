@@ -10,7 +10,7 @@ use Rattle.wire.specs.Form.{Found, framed, found}
 use Rattle.wire.specs.Calls.{unfit, write_answer, write_buffer, read_of, read_answer, read_buffer}
 use Rattle.wire.proofs.Rereading.{read_back}
 use Rattle.wire_line.specs.Frames.{Begins}
-use Rattle.wire_line.specs.Flat.{framed_fits}
+use Rattle.wire_line.proofs.Flat.{framed_fits}
 
 -- what the writer answers and leaves, where it has room for any frame
 module _ (block : List ℕ) (size : (1 ≤ length block) × (length block ≤ 520)) (n : ℕ) (answered : Ok n ≡ write_answer block (replicate 1042 0)) where

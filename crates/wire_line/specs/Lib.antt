@@ -1,4 +1,3 @@
 pub mod Frames
 pub mod Waiting
-pub mod Kept
-pub mod Flat
+pub mod Lengths

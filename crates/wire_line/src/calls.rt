@@ -5,8 +5,7 @@ ghost use Rattle.line.specs.Blocks.{refusal};
 ghost use Rattle.queue.specs.Contents.{copied};
 ghost use Rattle.wire_line.specs.Frames.{flat};
 ghost use Rattle.wire_line.specs.Waiting.{waits, relies};
-ghost use Rattle.std.proofs.Common.{arith};
-ghost use Rattle.wire_line.specs.Kept.{length-waits};
+ghost use Rattle.wire_line.specs.Lengths.{few_wait};
 
 use crate::frames::{append, split_first};
 use crate::held::WireLine;
@@ -73,7 +72,7 @@ impl Line for WireLine {
 
     ghost held = { λ x. (x.long, x.few, x.whole, x.each) };
 
-    ghost room = { λ x. omega (arith, length-waits x) };
+    ghost room = { few_wait };
 
     ghost sizes = { λ x. x.each };
 

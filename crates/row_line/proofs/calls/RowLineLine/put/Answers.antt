@@ -1,6 +1,7 @@
 use Rattle.std.proofs.Common.{◌<◌, ◌≤◌, length, arith}
 use Rattle.queue.specs.Contents.{contents, capacity}
-use Rattle.row_line.specs.Held.{relied, put_few, put_ok, put_adds}
+use Rattle.row_line.specs.Relied.{relied}
+use Rattle.row_line.proofs.Held.{put_few, put_ok, put_adds}
 use Rattle.row_line.proofs.calls.RowLineLine.put.Goals as goal
 
 pub invariant_of-self : goal.invariant_of-self

@@ -1,10 +1,11 @@
 use Rattle.std.proofs.Common.{◌≤◌, map, length, Err, ap, ◌∙◌, arith}
 use Rattle.std.proofs.lemmas.List.{length-drop}
 use Rattle.std.proofs.lemmas.Bool.Decides.{nat_tests}
-use Rattle.queue.specs.Contents.{contents, capacity}
+use Rattle.queue.specs.Contents.{contents}
 use Rattle.refusal.specs.Buffers.{over}
 use Rattle.row_line.specs.Waiting.{block_of}
-use Rattle.row_line.specs.Held.{relied, take_ok, take_leaves, take_writes, none_waits}
+use Rattle.row_line.specs.Relied.{relied}
+use Rattle.row_line.proofs.Held.{take_ok, take_leaves, take_writes, none_waits}
 use Rattle.row_line.proofs.calls.RowLineLine.take.Goals as goal
 
 pub returns-in_default : goal.returns-in_default

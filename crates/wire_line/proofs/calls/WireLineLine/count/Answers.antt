@@ -1,5 +1,5 @@
 use Rattle.std.proofs.Common.{sym}
-use Rattle.wire_line.specs.Kept.{length-waits}
+use Rattle.wire_line.specs.Lengths.{length-waits}
 use Rattle.wire_line.proofs.calls.WireLineLine.count.Goals as goal
 
 pub returns : goal.returns

@@ -1,7 +1,8 @@
 use Rattle.std.proofs.Common.{◌≡◌, true, Err, ap, ◌∙◌, arith}
 use Rattle.std.proofs.lemmas.Bool.Decides.{nat_tests}
 use Rattle.line.specs.Blocks.{carried}
-use Rattle.wire_line.specs.Kept.{length-waits, room_for, put_blocks, put_kept}
+use Rattle.wire_line.specs.Lengths.{length-waits}
+use Rattle.wire_line.proofs.Kept.{room_for, put_blocks, put_kept}
 use Rattle.wire_line.proofs.calls.WireLineLine.put.Goals as goal
 
 pub returns-then-self-ge-MOST : goal.returns-then-self-ge-MOST

@@ -3,7 +3,8 @@ use Rattle.std.proofs.lemmas.Bool.Decides.{nat_tests}
 use Rattle.refusal.specs.Buffers.{over}
 use Rattle.line.specs.Blocks.{take_answer, take_after, take_buffer}
 use Rattle.wire_line.specs.Frames.{blocks}
-use Rattle.wire_line.specs.Kept.{length-waits, waits_first, size, begins, take_kept}
+use Rattle.wire_line.specs.Lengths.{length-waits}
+use Rattle.wire_line.proofs.Kept.{waits_first, size, begins, take_kept}
 use Rattle.wire_line.proofs.calls.WireLineLine.take.Goals as goal
 
 pub returns-then-self-eq0 : goal.returns-then-self-eq0

@@ -11,10 +11,8 @@ use Rattle.wire.proofs.Rereading.{read_back}
 use Rattle.wire_line.specs.declared.held.WireLine.{WireLine}
 use Rattle.wire_line.specs.Frames.{blocks, flat, Begins, Carries, Kept}
 use Rattle.wire_line.specs.Waiting.{waits}
-use Rattle.wire_line.specs.Flat.{sizes, first, others, flat_fits, flat_push, length-blocks, blocks_first, blocks_flat, carries_push}
-
-pub length-waits : (x : WireLine) → length (waits x) ≡ x.count
-length-waits x = length-blocks x.count (contents x.bytes)
+use Rattle.wire_line.specs.Lengths.{length-waits}
+use Rattle.wire_line.proofs.Flat.{sizes, first, others, flat_fits, flat_push, blocks_first, blocks_flat, carries_push}
 
 pub room_for : (x : WireLine) → x.count < 16 → length (contents x.bytes) + 1042 ≤ capacity x.bytes
 room_for x h = omega (arith, ap length x.whole, flat_fits (waits x) x.each, length-waits x)

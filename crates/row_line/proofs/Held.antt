@@ -1,27 +1,16 @@
 -- What a put and a take do to the blocks of the rows that wait.
-use Rattle.std.specs.Prelude.{◌≡◌, ℕ, zero, suc, ◌+◌, ◌<◌, ◌≤◌, true, List, [], ◌∷◌, ◌++◌, map, length, drop, Some, None, Ok, slice_index_or, refl}
+use Rattle.std.specs.Prelude.{◌≡◌, ℕ, ◌<◌, ◌≤◌, List, [], ◌∷◌, ◌++◌, map, length, drop, Some, None, Ok, refl}
 use Rattle.std.proofs.Common.{sym, ap, ◌∙◌, arith}
-use Rattle.std.proofs.lemmas.List.{length-map, length_push, length-take-le, map_push}
+use Rattle.std.proofs.lemmas.List.{length-map, length_push, map_push}
 use Rattle.std.proofs.lemmas.Bool.Decides.{nat_tests}
 use Rattle.std.specs.List.{slice_get}
 use Rattle.queue.specs.Contents.{contents, capacity, push_after}
 use Rattle.queue.specs.declared.queue.Queue.{Queue}
 use Rattle.refusal.specs.Buffers.{over}
-use Rattle.line.specs.Blocks.{carried, oldest, later, put_answer, put_after, take_answer, take_after, take_buffer}
+use Rattle.line.specs.Blocks.{oldest, later, put_answer, put_after, take_answer, take_after, take_buffer}
 use Rattle.row_line.specs.declared.row.Row.{Row}
 use Rattle.row_line.specs.Waiting.{block_of}
-
-pub length-block : (row : Row) → length (block_of row) ≡ row.len
-length-block row = length-take-le row.len row.bytes (omega arith)
-
-each_carried : (rows : List Row) (k : ℕ) → k < length (map block_of rows) → carried (slice_index_or (map block_of rows) k []) ≡ true
-each_carried [] k h = absurd (omega arith)
-each_carried (row ∷ rows) zero h = let l = length-block row in grind (arith, nat_tests)
-each_carried (row ∷ rows) (suc k) h = each_carried rows k (omega arith)
-
--- what a line relies on, of the queue that holds its rows
-pub relied : (q : Queue Row) → 16 ≤ capacity q → length (contents q) ≤ 16 → (16 ≤ capacity q) × (length (map block_of (contents q)) ≤ 16) × ((k : ℕ) → k < length (map block_of (contents q)) → carried (slice_index_or (map block_of (contents q)) k []) ≡ true)
-relied q long few = (long, omega (arith, length-map (contents q) block_of), each_carried (contents q))
+use Rattle.row_line.specs.Relied.{length-block}
 
 -- a queue with room, and the same after a push
 module _ (q q' : Queue Row) (row : Row) (free : length (contents q) < 16) (long : 16 ≤ capacity q) (is : contents q' ≡ push_after (contents q) (capacity q) row) where

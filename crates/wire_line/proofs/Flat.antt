@@ -40,11 +40,6 @@ unfolding flat
 flat_push [] b = append-nil (framed b)
 flat_push (c ∷ bs) b = ap (λ z. framed c ++ z) (flat_push bs b) ∙ sym (append_assoc (framed c) (flat bs) (framed b))
 
-pub length-blocks : (n : ℕ) (bytes : List ℕ) → length (blocks n bytes) ≡ n
-unfolding blocks
-length-blocks zero bytes = refl
-length-blocks (suc n) bytes = ap suc (length-blocks n (found bytes).rest)
-
 pub blocks_first : (n : ℕ) (bytes : List ℕ) → 0 < n → blocks n bytes ≡ (found bytes).block ∷ blocks (n - 1) (found bytes).rest
 unfolding blocks
 blocks_first zero bytes h = absurd (omega arith)
