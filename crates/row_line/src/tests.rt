@@ -24,8 +24,8 @@ fn make(rt: HostRuntime, rows: usize) -> Result<RowLine, Fail>
     }
 }
 
-#[test]
 #[tactic(auto, using(crate::specs::Relied::relied))]
+#[test]
 fn sixteen_wait_in_order(rt: HostRuntime) -> Result<(), Fail> {
     let mut line = make(rt, 16)?;
     let mut buf = [0; 520];
