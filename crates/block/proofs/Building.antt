@@ -1,12 +1,11 @@
 -- A block begun, added to and sealed is a whole block.
-use Rattle.std.proofs.Common.{◌≡◌, ℕ, ◌+◌, ◌<◌, ◌≤◌, Bool, true, false, cond, ltb, List, [], ◌∷◌, ◌++◌, length, take, drop, Ok, Err, Result, sym, refl, ap, ◌∙◌, arith}
+use Rattle.std.proofs.Common.{◌≡◌, ℕ, ◌+◌, ◌≤◌, Bool, true, false, cond, ltb, List, ◌++◌, length, drop, Ok, Err, Result, sym, refl, ap, ◌∙◌, arith}
 use Rattle.std.proofs.lemmas.List.{length-append, take_at}
-use Rattle.refusal.specs.declared.Refusal.{Refusal}
 use Rattle.refusal.specs.Buffers.{over, placed}
 use Rattle.refusal.proofs.Buffers.{over_more, over_over}
 use Rattle.block.specs.declared.heading.Heading.{Heading}
 use Rattle.block.specs.Form.{header, body, check_bytes, sealed, in_range}
-use Rattle.block.specs.Building.{Back, short, begin_answer, begin_buffer, add_answer, add_buffer, seal_answer, seal_buffer, build_answer, build_buffer, whole}
+use Rattle.block.specs.Building.{short, begin_answer, begin_buffer, add_answer, add_buffer, seal_answer, seal_buffer, build_answer, build_buffer, whole}
 use Rattle.block.proofs.Checking.{length-check}
 
 -- where a call did not refuse, the test for the refusal failed

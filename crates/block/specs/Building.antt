@@ -1,5 +1,5 @@
 -- A block that is begun, added to and sealed: what each call answers and what it leaves in the buffer.
-use Rattle.std.specs.Prelude.{ℕ, ◌+◌, ◌/◌, ◌%◌, Bool, cond, ◌&&◌, List, [], ◌∷◌, ◌++◌, length, take, drop, Ok, Err, Result, nat_lt}
+use Rattle.std.specs.Prelude.{ℕ, ◌+◌, ◌/◌, ◌%◌, Bool, cond, List, ◌∷◌, ◌++◌, length, take, drop, Ok, Err, Result, nat_lt}
 use Rattle.std.specs.Borrow.{Bor}
 use Rattle.refusal.specs.Buffers.{over, placed}
 use Rattle.refusal.specs.declared.Layer.TheVariants.{Block}

@@ -1,5 +1,5 @@
 -- What a check owes: a width of one or two bytes, values of that width, and that one changed byte shows.
-use Rattle.std.specs.Prelude.{◌≡◌, ℕ, ◌^◌, ◌<◌, ◌≤◌, List, length, ◌≢◌, slice_index, slice_index_or}
+use Rattle.std.specs.Prelude.{◌≡◌, ℕ, ◌^◌, ◌<◌, ◌≤◌, List, length, ◌≢◌, slice_index}
 use Rattle.std.specs.List.{AllByRecursion}
 
 -- a check by its width and its values
@@ -14,8 +14,8 @@ Bytes bs = AllByRecursion (λ b. b < 256) bs
 pub record DifferAt (i : ℕ) (xs ys : List ℕ) : Type 0 where
   pub same_length : length xs ≡ length ys
   pub inside : i < length xs
-  pub here : slice_index_or xs i 0 ≡ slice_index ys i → ⊥
-  pub elsewhere : (k : ℕ) → (k ≢ i) → slice_index xs k ≡ slice_index ys k
+  pub here : slice_index xs i ≢ slice_index ys i
+  pub elsewhere : (k : ℕ) → k ≢ i → slice_index xs k ≡ slice_index ys k
 
 -- Two strings of equal length that differ in exactly one byte have different values.
 abbrev pub Tells : (List ℕ → ℕ) → Type 0

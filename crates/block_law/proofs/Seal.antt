@@ -4,7 +4,7 @@ use Rattle.std.proofs.ByRecursion.{All-append}
 use Rattle.std.proofs.lemmas.Bool.Decides.{nat_tests}
 use Rattle.block_check.specs.Law.{Bytes, Lawful}
 use Rattle.block.specs.declared.heading.Heading.{Heading}
-use Rattle.block.specs.Form.{header, body, check_bytes, sealed, in_range}
+use Rattle.block.specs.Form.{body, check_bytes, sealed, in_range}
 
 pub same_value : (w u v : ℕ) → 1 ≤ w → w ≤ 2 → u < 256 ^ w → v < 256 ^ w → check_bytes w u ≡ check_bytes w v → u ≡ v
 same_value zero u v some few a b e = absurd (omega arith)

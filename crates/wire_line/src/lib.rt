@@ -7,7 +7,6 @@ pub mod held;
 
 pub use calls::Short;
 pub use held::WireLine;
-use line::Line;
 
 #[cfg(test)]
 mod tests {

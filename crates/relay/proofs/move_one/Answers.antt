@@ -1,4 +1,4 @@
-use Rattle.std.proofs.Common.{◌≡◌, ◌-◌, true, [], ◌∷◌, ◌++◌, length, take, Ok, sym, ap, ◌∙◌}
+use Rattle.std.proofs.Common.{◌≡◌, true, length, Ok, sym, ap, ◌∙◌}
 use Rattle.line.specs.Blocks.{carried, oldest, put_after}
 use Rattle.line.proofs.Facts.{put_adds, take_gives, take_leaves, take_writes, oldest_first}
 use Rattle.relay.proofs.Moving.{front_is}

@@ -1,8 +1,7 @@
-use Rattle.std.proofs.Common.{◌≡◌, ◌+◌, ◌-◌, ◌<◌, ◌≤◌, min, [], ◌∷◌, ◌++◌, length, take, drop, sym, refl, ap, ◌∙◌, arith, rules}
+use Rattle.std.proofs.Common.{◌-◌, ◌<◌, min, [], ◌∷◌, ◌++◌, length, take, drop, sym, refl, ap, ◌∙◌, arith, rules}
 use Rattle.std.proofs.lemmas.List.{append-nil, length-append, length-take-le, length-drop}
 use Rattle.refusal.specs.Buffers.{over}
 use Rattle.line.specs.Blocks.{oldest, later}
-use Rattle.relay.specs.Moving.{passed}
 use Rattle.relay.proofs.Moving.{later_is, added_is, passed_is, passed_none}
 use Rattle.relay.proofs.relay.Goals as goal
 

@@ -1,4 +1,4 @@
-use Rattle.std.proofs.Common.{◌≡◌, ◌-◌, ◌<◌, ◌≤◌, List, length, take, drop, sym, ap, ◌∙◌, arith}
+use Rattle.std.proofs.Common.{◌≡◌, ◌-◌, take, drop, ap, ◌∙◌, arith}
 use Rattle.refusal.specs.Buffers.{placed}
 use Rattle.block.specs.Form.{check_bytes}
 use Rattle.block.proofs.Checking.{tail_bytes}

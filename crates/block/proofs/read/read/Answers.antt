@@ -1,4 +1,4 @@
-use Rattle.std.proofs.Common.{◌≡◌, ℕ, ◌+◌, ◌-◌, ◌<◌, ◌≤◌, Bool, true, false, List, length, take, drop, Ok, sym, ap, ◌∙◌, arith, rules}
+use Rattle.std.proofs.Common.{Ok, ap, ◌∙◌, arith}
 use Rattle.block.proofs.Reading.{parts, compared, read_short, read_large, read_more, read_less, read_wrong, read_well}
 use Rattle.block.proofs.read.read.Goals as goal
 

@@ -1,7 +1,7 @@
 use Rattle.std.proofs.Common.{arith}
 use Rattle.std.proofs.lemmas.List.Sums.{fold_more}
 use Rattle.checks.specs.Crc.{crc, stepped}
-use Rattle.checks.specs.Shared.{read_more, read_all}
+use Rattle.checks.proofs.Reading.{read_more, read_all}
 use Rattle.checks.proofs.long.crc_of.Goals as goal
 
 pub loop-b-preserved : goal.loop-b-preserved

@@ -1,7 +1,7 @@
 use Rattle.std.proofs.Common.{arith}
 use Rattle.std.proofs.lemmas.List.Sums.{sum_by_more}
 use Rattle.checks.specs.Sums.{sum_value}
-use Rattle.checks.specs.Shared.{read_more, read_all}
+use Rattle.checks.proofs.Reading.{read_more, read_all}
 use Rattle.checks.proofs.sum.sum_of.Goals as goal
 
 pub loop-b-preserved : goal.loop-b-preserved

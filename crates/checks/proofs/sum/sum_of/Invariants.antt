@@ -1,5 +1,5 @@
 use Rattle.checks.specs.Sums.{sum_value}
-use Rattle.checks.specs.Shared.{Read}
+use Rattle.checks.proofs.Reading.{Read}
 use Rattle.checks.proofs.sum.sum_of.Given as goal
 
 abbrev pub invariant-loop-b : goal.invariant-loop-b
