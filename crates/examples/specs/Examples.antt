@@ -1,6 +1,5 @@
 -- Worked examples, from the definitions that the code's contracts cite.
 use Rattle.std.specs.Prelude.{◌≡◌, ℕ, false, List, [], ◌∷◌}
-use Rattle.block.specs.declared.heading.Heading.{Heading}
 use Rattle.block.specs.Form.{sealed}
 use Rattle.checks.specs.Sums.{sum_value}
 use Rattle.login.specs.declared.LogIn.{LogIn}

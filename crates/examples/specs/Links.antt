@@ -1,12 +1,11 @@
 -- Worked examples of the link, from the definitions of ends, calls and runs.
-use Rattle.std.specs.Prelude.{◌≡◌, ℕ, true, List, [], ◌∷◌, ◌++◌, map, replicate, Some, None, Ok, Err, Result}
+use Rattle.std.specs.Prelude.{◌≡◌, ℕ, List, [], ◌∷◌, ◌++◌, map, replicate, Some, None, Ok, Err, Result}
 use Rattle.refusal.specs.Numbers.{number_of}
 use Rattle.refusal.specs.declared.Layer.TheVariants.{End as OfEnd}
 use Rattle.refusal.specs.declared.Reason.TheVariants.{LimitOutOfRange}
 use Rattle.refusal.specs.declared.Refusal.{Refusal}
 use Rattle.block.specs.declared.status.Status.{Status}
 use Rattle.block.specs.declared.status.Status.TheVariants.{Good, OutOfTurn}
-use Rattle.block.specs.declared.heading.Heading.{Heading}
 use Rattle.block.specs.Reading.{Content}
 use Rattle.block_check.specs.Law.{Code}
 use Rattle.checks.specs.Sums.{sum_value}
@@ -17,10 +16,10 @@ use Rattle.rules.specs.declared.seat.State.TheVariants.{LoggedIn}
 use Rattle.rules.specs.declared.answer.Tag.{Tag}
 use Rattle.rules.specs.declared.answer.Polled.{Polled}
 use Rattle.rules.specs.Frames.{ack_frame}
-use Rattle.rules.specs.Ends.{End, hears}
+use Rattle.rules.specs.Ends.{hears}
 use Rattle.rules.specs.Sending.{block}
 use Rattle.rules.specs.Calls.{numbered, polls}
-use Rattle.rules.specs.Links.{Act, open_link, send, poll, lose, Answer, opened, sent, polled, timed_out, lost, Entry, Call, World, journal, run, fresh_link, makes_link}
+use Rattle.rules.specs.Links.{Act, open_link, send, poll, lose, Answer, opened, sent, polled, timed_out, lost, Call, World, journal, run, fresh_link, makes_link}
 use Rattle.law.specs.Law.{Asked, ask}
 
 abbrev pub sum : Code

@@ -8,7 +8,7 @@ use Rattle.line.specs.declared.Line.{Ghosts}
 use Rattle.rules.specs.declared.call.Call.{Call as Asked}
 use Rattle.rules.specs.Ends.{in_limits}
 use Rattle.rules.specs.Calls.{refusal}
-use Rattle.rules.specs.Links.{World, journal, run}
+use Rattle.rules.specs.Links.{World}
 use Rattle.law.specs.Journals.{nothing}
 use Rattle.link.specs.declared.link.Link.{Link}
 use Rattle.link.specs.declared.parts.Parts.{Parts}

@@ -21,7 +21,7 @@ use Rattle.rules.specs.Frames.{ack_frame, no_heading, log_in_frame, replies}
 use Rattle.rules.specs.LogIns.{Told, answer, renewal, smaller, same, bad, good_of, log_in_in, settled, moved, with_talk, differs, number_sent, renewed, noted, negotiated, hears_log_in}
 use Rattle.rules.specs.Records.{repeats, clears, logged_in, judged}
 use Rattle.rules.specs.Ends.{End, Hearing, silent, acked, is_latest, clearing, hears_ack, tells, rules_on, hears}
-use Rattle.rules.specs.Sending.{block, blocks, puts as puts-blocks}
+use Rattle.rules.specs.Sending.{blocks, puts as puts-blocks}
 use Rattle.law.specs.Journals.{Record, Past}
 use Rattle.law.proofs.States.{logged_in_is}
 use Rattle.law.proofs.Lines.{puts, all_puts}

@@ -11,7 +11,7 @@ use Rattle.rules.specs.LogIns.{smaller}
 use Rattle.rules.specs.Records.{logged_in}
 use Rattle.rules.specs.Ends.{fresh}
 use Rattle.rules.specs.Links.{Act, World, Call, journal, run, stepped, entry, fresh_link}
-use Rattle.law.specs.Journals.{Record, Past, nothing, with_entry, past}
+use Rattle.law.specs.Journals.{Record, Past, nothing, with_entry}
 use Rattle.law.specs.Law.{OneWay, ask, Faithful, OfBytes, CallsOfBytes, RunsFaithful, CallsLeadOn}
 use Rattle.law.proofs.Ways.{length-waiting, way_start}
 use Rattle.law.proofs.Talks.{Bounds, bounds, bounds_swap, within_start, SeatOk}
