@@ -6,10 +6,10 @@ use Rattle.refusal.specs.declared.Layer.TheVariants.{Block}
 use Rattle.refusal.specs.declared.Reason.{Reason}
 use Rattle.refusal.specs.declared.Reason.TheVariants.{TooShort, HeadingOutOfRange, PayloadTooLong}
 use Rattle.refusal.specs.declared.Refusal.{Refusal}
+use Rattle.refusal.specs.declared.Declined.{Declined}
 use Rattle.block.specs.declared.heading.Heading.{Heading}
 use Rattle.block.specs.declared.half.HalfMade.{HalfMade}
 use Rattle.block.specs.declared.half.Sealed.{Sealed}
-use Rattle.block.specs.declared.half.Declined.{Declined}
 use Rattle.block.specs.Form.{header, sealed, check_bytes, in_range}
 
 abbrev pub refusal : Reason → Refusal
@@ -25,14 +25,14 @@ abbrev pub begun : Result HalfMade Refusal → Result ℕ Refusal
 begun (Ok half) = Ok half.size
 begun (Err e) = Err e
 
-abbrev pub back : Declined → Back
-back d = record { refusal = d.refusal; size = d.half.size }
+abbrev pub back : Declined HalfMade → Back
+back d = record { refusal = d.refusal; size = d.given.size }
 
-abbrev pub added : Result HalfMade Declined → Result ℕ Back
+abbrev pub added : Result HalfMade (Declined HalfMade) → Result ℕ Back
 added (Ok half) = Ok half.size
 added (Err d) = Err (back d)
 
-abbrev pub closed : Result Sealed Declined → Result ℕ Back
+abbrev pub closed : Result Sealed (Declined HalfMade) → Result ℕ Back
 closed (Ok block) = Ok block.len
 closed (Err d) = Err (back d)
 

@@ -1,4 +1,5 @@
 pub mod Statuses
 pub mod Form
+pub mod Headings
 pub mod Building
 pub mod Reading

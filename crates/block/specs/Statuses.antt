@@ -1,6 +1,7 @@
 -- The code of each status.
-use Rattle.std.specs.Prelude.{ℕ, cond, Some, None, Option, ◌==◌}
+use Rattle.std.specs.Prelude.{ℕ, cond, Some, None, Option, Result, ok_or, ◌==◌}
 use Rattle.block.specs.declared.status.Status.{Status}
+use Rattle.block.specs.declared.status.UnknownStatus.{UnknownStatus}
 use Rattle.block.specs.declared.status.Status.TheVariants.{Good, BadCheck, OverLength, UnderLength, Unsupported, OutOfResources, LogInInProgress, IllegalPause, OutOfTurn, BadLogIn, BadRecord}
 
 abbrev pub code_of : Status → ℕ
@@ -23,3 +24,7 @@ status_of c =
     (cond (c == 0x03) (Some UnderLength) (cond (c == 0x04) (Some Unsupported) (cond (c == 0x05) (Some OutOfResources)
     (cond (c == 0x06) (Some LogInInProgress) (cond (c == 0x07) (Some IllegalPause) (cond (c == 0x40) (Some OutOfTurn)
     (cond (c == 0x41) (Some BadLogIn) (cond (c == 0x42) (Some BadRecord) None))))))))))
+
+-- that status, or the code that has none
+abbrev pub named : ℕ → Result Status UnknownStatus
+named c = ok_or (status_of c) (record { 0 = c })

@@ -1,33 +1,17 @@
-// Building a block: begin with a heading, add, seal.
+// Building a block: begin with a heading, add, seal. Each call tests the buffer that it is lent, since a rule of the
+// project refuses a short one under the number 1.
 ghost use Rattle.std.specs.Prelude.{◌≡◌, ◌+◌, ◌≤◌, true, length, take};
-ghost use Rattle.refusal.specs.Buffers.{over, placed};
+ghost use Rattle.refusal.specs.Buffers.{placed};
 ghost use Rattle.block.specs.Form.{header, check_bytes, in_range};
-ghost use Rattle.block.specs.Building.{refusal, begun, added, closed, built, begin_answer, begin_buffer, add_answer, add_buffer, seal_answer, seal_buffer, build_answer, build_buffer, bytes_answer, lent};
+ghost use Rattle.block.specs.Building.{refusal, back, begun, added, closed, built, begin_answer, begin_buffer, add_answer, add_buffer, seal_answer, seal_buffer, build_answer, build_buffer, bytes_answer, lent};
 
-use crate::half::{Declined, HalfMade, Sealed};
+use crate::half::{HalfMade, Sealed};
 use crate::heading::Heading;
 use block_check::Check;
-use refusal::{Layer, Reason, Refusal};
-
-// A caller that gives the half-made block up passes the refusal on by `?`.
-impl From<Declined> for Refusal {
-    ghost from_gives = { λ declined r. r ≡ declined.refusal };
-
-    fn from(declined: Declined) -> Refusal {
-        declined.refusal
-    }
-}
-
-fn refused(reason: Reason) -> Refusal
-    ensures { result ≡ refusal reason }
-{
-    Refusal {
-        reason,
-        layer: Layer::Block,
-    }
-}
+use refusal::{Declined, Layer, Reason, Refusal};
 
 // Writes `part` at the place `at`.
+#[tactic(auto, using(refusal::proofs::Buffers::pasted))]
 fn paste(buf: &mut [u8], at: usize, part: &[u8])
     requires { at + length part.now ≤ length buf.old }
     ensures { buf.new ≡ placed at part.now buf.old }
@@ -36,27 +20,14 @@ fn paste(buf: &mut [u8], at: usize, part: &[u8])
 }
 
 impl Heading {
-    fn in_range(self) -> bool
-        ensures { result ≡ in_range self }
-    {
-        self.origin < 2 && self.protocol < 8 && self.kind < 16
-    }
-
     // The header of a block with nothing in it yet.
     fn header(self) -> [u8; 6]
         requires { in_range self ≡ true }
         ensures { result ≡ header self 0 }
     {
         let first = 128 * self.origin + 16 * self.protocol + self.kind;
-        let exchange = self.exchange;
-        [
-            first,
-            self.number,
-            (exchange / 256) as u8,
-            (exchange % 256) as u8,
-            0,
-            0,
-        ]
+        let [exchange_high, exchange_low] = self.exchange.to_be_bytes();
+        [first, self.number, exchange_high, exchange_low, 0, 0]
     }
 }
 
@@ -66,10 +37,10 @@ pub fn begin(heading: Heading, buf: &mut [u8]) -> Result<HalfMade, Refusal>
     ensures after { buf.new ≡ begin_buffer heading buf.old }
 {
     if buf.len() < 520 {
-        return Err(refused(Reason::TooShort));
+        return Err(Layer::Block.refuses(Reason::TooShort));
     }
-    if !heading.in_range() {
-        return Err(refused(Reason::HeadingOutOfRange));
+    if !heading.is_in_range() {
+        return Err(Layer::Block.refuses(Reason::HeadingOutOfRange));
     }
     paste(buf, 0, &heading.header());
     Ok(HalfMade { size: 0 })
@@ -88,22 +59,23 @@ fn close<K: Check>(n: usize, buf: &mut [u8]) -> usize
 }
 
 impl HalfMade {
+    // Hands itself back.
+    fn declines(self, reason: Reason) -> Declined<HalfMade>
+        ensures { back result ≡ record { refusal = refusal reason; size = self.size } }
+    {
+        Layer::Block.declines(reason, self)
+    }
+
     // Writes `more` behind what is there.
-    pub fn add(self, more: &[u8], buf: &mut [u8]) -> Result<HalfMade, Declined>
+    pub fn add(self, more: &[u8], buf: &mut [u8]) -> Result<HalfMade, Declined<HalfMade>>
         ensures answer { added result ≡ add_answer self.size more.now buf.old }
         ensures after { buf.new ≡ add_buffer self.size more.now buf.old }
     {
         if buf.len() < 520 {
-            return Err(Declined {
-                refusal: refused(Reason::TooShort),
-                half: self,
-            });
+            return Err(self.declines(Reason::TooShort));
         }
         if more.len() > 512 - self.size {
-            return Err(Declined {
-                refusal: refused(Reason::PayloadTooLong),
-                half: self,
-            });
+            return Err(self.declines(Reason::PayloadTooLong));
         }
         paste(buf, 6 + self.size, more);
         Ok(HalfMade {
@@ -112,19 +84,15 @@ impl HalfMade {
     }
 
     // Writes size and check.
-    pub fn seal<K: Check>(self, buf: &mut [u8]) -> Result<Sealed, Declined>
+    pub fn seal<K: Check>(self, buf: &mut [u8]) -> Result<Sealed, Declined<HalfMade>>
         ensures answer { closed result ≡ seal_answer K.Check.code.width self.size buf.old }
         ensures after { buf.new ≡ seal_buffer K.Check.code.width K.Check.code.value self.size buf.old }
     {
         if buf.len() < 520 {
-            return Err(Declined {
-                refusal: refused(Reason::TooShort),
-                half: self,
-            });
+            return Err(self.declines(Reason::TooShort));
         }
-        let size = self.size;
-        paste(buf, 4, &[(size / 256) as u8, (size % 256) as u8]);
-        let len = close::<K>(6 + size, buf);
+        paste(buf, 4, &(self.size as u16).to_be_bytes());
+        let len = close::<K>(6 + self.size, buf);
         Ok(Sealed { len })
     }
 }
@@ -141,7 +109,7 @@ impl Sealed {
         ensures { lent result ≡ bytes_answer self.now.len buf.now }
     {
         if buf.len() < 520 {
-            return Err(refused(Reason::TooShort));
+            return Err(Layer::Block.refuses(Reason::TooShort));
         }
         Ok(&buf[0..self.len])
     }
@@ -152,8 +120,8 @@ pub fn build<K: Check>(heading: Heading, payload: &[u8], buf: &mut [u8]) -> Resu
     ensures answer { built result ≡ build_answer K.Check.code.width K.Check.code.value heading payload.now buf.old }
     ensures after { buf.new ≡ build_buffer K.Check.code.width K.Check.code.value heading payload.now buf.old }
 {
-    if buf.len() >= 520 && heading.in_range() && payload.len() > 512 {
-        return Err(refused(Reason::PayloadTooLong));
+    if buf.len() >= 520 && heading.is_in_range() && payload.len() > 512 {
+        return Err(Layer::Block.refuses(Reason::PayloadTooLong));
     }
     let half = begin(heading, buf)?;
     let half = half.add(payload, buf)?;

@@ -2,8 +2,6 @@
 // be copied, so a half-made block is sealed once, and nothing is added to a sealed one.
 ghost use Rattle.std.specs.Prelude.{◌<◌, ◌≤◌};
 
-use refusal::Refusal;
-
 #[derive(Drop)]
 pub struct HalfMade {
     pub(crate) size: usize,
@@ -15,11 +13,4 @@ pub struct Sealed {
     pub(crate) len: usize,
     ghost some: { 0 < len },
     ghost small: { len ≤ 520 },
-}
-
-// A refused call hands the half-made block back.
-#[derive(Drop)]
-pub struct Declined {
-    pub refusal: Refusal,
-    pub half: HalfMade,
 }

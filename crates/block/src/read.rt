@@ -1,6 +1,5 @@
 // Reading a block.
-ghost use Rattle.std.specs.Prelude.{◌≡◌, ◌+◌, ◌<◌, true, length, drop, IfOk, MatchOption};
-ghost use Rattle.std.specs.Str.{bytes_eq};
+ghost use Rattle.std.specs.Prelude.{◌≡◌, ◌+◌, ◌<◌, true, length, drop, MatchOption};
 ghost use Rattle.block.specs.Form.{in_range};
 ghost use Rattle.block.specs.Reading.{heading_of, size_of, shown, read_block};
 
@@ -15,31 +14,32 @@ struct Parts<'a> {
     heading: Heading,
     size: usize,
     rest: &'a [u8],
+    ghost fields: { in_range heading ≡ true },
 }
 
 fn take_apart(bytes: &[u8]) -> Option<Parts<'_>>
-    ensures { MatchOption result (length bytes.now < 6) (λ p. (6 + length p.rest.now ≡ length bytes.now) × (p.heading ≡ heading_of bytes.now) × (p.size ≡ size_of bytes.now) × (p.rest.now ≡ drop 6 bytes.now) × (in_range p.heading ≡ true)) }
+    ensures { MatchOption result (length bytes.now < 6) (λ p. (6 + length p.rest.now ≡ length bytes.now) × (p.heading ≡ heading_of bytes.now) × (p.size ≡ size_of bytes.now) × (p.rest.now ≡ drop 6 bytes.now)) }
 {
-    let [
+    let &[
         first,
         number,
         exchange_high,
         exchange_low,
         size_high,
         size_low,
-        rest @ ..,
+        ref rest @ ..,
     ] = bytes
     else {
         return None;
     };
     let heading = Heading {
-        origin: *first / 128,
-        protocol: *first / 16 % 8,
-        kind: *first % 16,
-        number: *number,
-        exchange: u16::from_be_bytes([*exchange_high, *exchange_low]),
+        origin: first / 128,
+        protocol: first / 16 % 8,
+        kind: first % 16,
+        number,
+        exchange: u16::from_be_bytes([exchange_high, exchange_low]),
     };
-    let size = usize::from(u16::from_be_bytes([*size_high, *size_low]));
+    let size = usize::from(u16::from_be_bytes([size_high, size_low]));
     Some(Parts {
         heading,
         size,
@@ -47,16 +47,10 @@ fn take_apart(bytes: &[u8]) -> Option<Parts<'_>>
     })
 }
 
-fn same(a: &[u8], b: &[u8]) -> bool
-    ensures { result ≡ bytes_eq a.now b.now }
-{
-    a == b
-}
-
 // What a receiver makes of the bytes: the status that tells what is wrong with them, or the frame.
+#[tactic(auto, unfolding(crate::specs::Reading::read_block))]
 pub fn read<K: Check>(bytes: &[u8]) -> Result<Frame<'_>, Status>
-    ensures answer { shown result ≡ read_block K.Check.code.width K.Check.code.value bytes.now }
-    ensures ranged { IfOk result (λ f. in_range f.heading ≡ true) }
+    ensures { shown result ≡ read_block K.Check.code.width K.Check.code.value bytes.now }
 {
     let w = K::width();
     let Some(
@@ -82,7 +76,7 @@ pub fn read<K: Check>(bytes: &[u8]) -> Result<Frame<'_>, Status>
         return Err(Status::UnderLength);
     }
     let value = K::value(&bytes[0..6 + size]).to_be_bytes();
-    if !same(&rest[size..], &value[2 - w..]) {
+    if rest[size..] != value[2 - w..] {
         return Err(Status::BadCheck);
     }
     Ok(Frame {

@@ -1,77 +1,67 @@
-// The status that an acknowledgement carries.
+// The status that an acknowledgement carries. A reader of blocks gives one as its error.
 ghost use Rattle.std.specs.Prelude.{◌≡◌};
-ghost use Rattle.block.specs.Statuses.{code_of, status_of};
+ghost use Rattle.block.specs.Statuses.{code_of, named};
 
-use std::fmt;
+use thiserror::Error;
 
-#[derive(Clone, Copy, PartialEq, Eq, Debug)]
+#[derive(Clone, Copy, PartialEq, Eq, Debug, Error)]
 pub enum Status {
-    Good,
-    BadCheck,
-    OverLength,
-    UnderLength,
-    Unsupported,
-    OutOfResources,
-    LogInInProgress,
-    IllegalPause,
-    OutOfTurn,
-    BadLogIn,
-    BadRecord,
+    #[error("00h good")]
+    Good = 0x00,
+    #[error("01h bad check")]
+    BadCheck = 0x01,
+    #[error("02h over-length")]
+    OverLength = 0x02,
+    #[error("03h under-length")]
+    UnderLength = 0x03,
+    #[error("04h unsupported")]
+    Unsupported = 0x04,
+    #[error("05h out of resources")]
+    OutOfResources = 0x05,
+    #[error("06h log-in in progress")]
+    LogInInProgress = 0x06,
+    #[error("07h illegal pause")]
+    IllegalPause = 0x07,
+    #[error("40h out of turn")]
+    OutOfTurn = 0x40,
+    #[error("41h bad log-in")]
+    BadLogIn = 0x41,
+    #[error("42h bad record")]
+    BadRecord = 0x42,
 }
 
 impl Status {
     pub fn code(self) -> u8
         ensures { result ≡ code_of self }
     {
-        match self {
-            Status::Good => 0x00,
-            Status::BadCheck => 0x01,
-            Status::OverLength => 0x02,
-            Status::UnderLength => 0x03,
-            Status::Unsupported => 0x04,
-            Status::OutOfResources => 0x05,
-            Status::LogInInProgress => 0x06,
-            Status::IllegalPause => 0x07,
-            Status::OutOfTurn => 0x40,
-            Status::BadLogIn => 0x41,
-            Status::BadRecord => 0x42,
-        }
-    }
-
-    pub fn from_code(code: u8) -> Option<Status>
-        ensures { result ≡ status_of code }
-    {
-        match code {
-            0x00 => Some(Status::Good),
-            0x01 => Some(Status::BadCheck),
-            0x02 => Some(Status::OverLength),
-            0x03 => Some(Status::UnderLength),
-            0x04 => Some(Status::Unsupported),
-            0x05 => Some(Status::OutOfResources),
-            0x06 => Some(Status::LogInInProgress),
-            0x07 => Some(Status::IllegalPause),
-            0x40 => Some(Status::OutOfTurn),
-            0x41 => Some(Status::BadLogIn),
-            0x42 => Some(Status::BadRecord),
-            _ => None,
-        }
+        self as u8
     }
 }
 
-impl fmt::Display for Status {
-    fn fmt<W: fmt::Write>(&self, f: &mut fmt::Formatter<W>) -> fmt::Result {
-        f.write_str(match *self {
-            Status::Good => "00h good",
-            Status::BadCheck => "01h bad check",
-            Status::OverLength => "02h over-length",
-            Status::UnderLength => "03h under-length",
-            Status::Unsupported => "04h unsupported",
-            Status::OutOfResources => "05h out of resources",
-            Status::LogInInProgress => "06h log-in in progress",
-            Status::IllegalPause => "07h illegal pause",
-            Status::OutOfTurn => "40h out of turn",
-            Status::BadLogIn => "41h bad log-in",
-            Status::BadRecord => "42h bad record",
-        })
+// A code that no status has.
+#[derive(Clone, Copy, PartialEq, Eq, Debug, Error)]
+#[error("{0:02X}h unknown")]
+pub struct UnknownStatus(pub u8);
+
+impl TryFrom<u8> for Status {
+    type Error = UnknownStatus;
+
+    ghost try_from_gives = { λ code r. r ≡ named code };
+
+    fn try_from(code: u8) -> Result<Status, UnknownStatus> {
+        match code {
+            0x00 => Ok(Status::Good),
+            0x01 => Ok(Status::BadCheck),
+            0x02 => Ok(Status::OverLength),
+            0x03 => Ok(Status::UnderLength),
+            0x04 => Ok(Status::Unsupported),
+            0x05 => Ok(Status::OutOfResources),
+            0x06 => Ok(Status::LogInInProgress),
+            0x07 => Ok(Status::IllegalPause),
+            0x40 => Ok(Status::OutOfTurn),
+            0x41 => Ok(Status::BadLogIn),
+            0x42 => Ok(Status::BadRecord),
+            _ => Err(UnknownStatus(code)),
+        }
     }
 }

@@ -21,25 +21,23 @@ fn shift(s: u16) -> u16
 }
 
 // One byte. The compiler makes a table of this loop, so it is as quick as one.
+#[tactic(auto, unfolding(crate::specs::Crc::bits))]
 fn step(state: u16, b: u8) -> u16
     ensures { result ≡ stepped state b }
 {
-    let mut s = state ^ ((b as u16) << 8);
+    let mut s = state ^ (u16::from(b) << 8);
     for _i in 0..8u32 {
         s = shift(s);
     }
     s
 }
 
+// The clause on the bytes is the trait's, handed on, as the sum check hands it on.
 fn crc_of(bytes: &[u8]) -> u16
     ensures answer { result ≡ crc bytes.now }
     ensures bytes { Bytes bytes.now }
 {
-    let mut state: u16 = 0xffff;
-    for b in bytes {
-        state = step(state, *b);
-    }
-    state
+    bytes.iter().fold(0xffff, |state, b| step(state, *b))
 }
 
 impl Check for LongCheck {

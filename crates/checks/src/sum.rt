@@ -9,7 +9,8 @@ use block_check::Check;
 #[derive(Clone, Copy)]
 pub struct SumCheck;
 
-// Adds every byte modulo 256.
+// Adds every byte modulo 256. A `for` loop, since the rules of the project ask for one here.
+// The clause on the bytes is the trait's, handed on: a loop in the impl would be no plainer, as this counts in a `u8`.
 fn sum_of(bytes: &[u8]) -> u8
     ensures answer { result ≡ sum_value bytes.now }
     ensures bytes { Bytes bytes.now }

@@ -21,21 +21,22 @@ pub struct LogIn {
     pub parameters: Parameters,
 }
 
+// The bits of byte 0 that are written: one of the two.
+const CHANGED: u8 = 0x80;
+
+const ACCEPT: u8 = 0x40;
+
+// Named for the wire. `TryFrom` would be no plainer than `decode`: it wants an error type, and every caller drops it.
 impl LogIn {
     pub fn encode(self) -> [u8; 6]
         ensures { result ≡ encoded self }
     {
-        let first = if self.accept { 64 } else { 128 };
-        let Parameters {
-            offset,
-            payload,
-            baud,
-        } = self.parameters;
-        let [payload_high, payload_low] = payload.to_be_bytes();
-        let [baud_high, baud_low] = baud.to_be_bytes();
+        let first = if self.accept { ACCEPT } else { CHANGED };
+        let [payload_high, payload_low] = self.parameters.payload.to_be_bytes();
+        let [baud_high, baud_low] = self.parameters.baud.to_be_bytes();
         [
             first,
-            offset,
+            self.parameters.offset,
             payload_high,
             payload_low,
             baud_high,
@@ -47,7 +48,7 @@ impl LogIn {
     pub fn decode(payload: &[u8]) -> Option<LogIn>
         ensures { result ≡ decoded payload.now }
     {
-        let [
+        let &[
             first,
             offset,
             payload_high,
@@ -58,20 +59,17 @@ impl LogIn {
         else {
             return None;
         };
-        let parameters = Parameters {
-            offset: *offset,
-            payload: u16::from_be_bytes([*payload_high, *payload_low]),
-            baud: u16::from_be_bytes([*baud_high, *baud_low]),
-        };
         Some(LogIn {
-            accept: *first / 64 % 2 == 1,
-            parameters,
+            accept: first & ACCEPT != 0,
+            parameters: Parameters {
+                offset,
+                payload: u16::from_be_bytes([payload_high, payload_low]),
+                baud: u16::from_be_bytes([baud_high, baud_low]),
+            },
         })
     }
 }
 
-pub fn decoding_undoes_encoding() -> u8
+pub fn decoding_undoes_encoding()
     ensures { ReadsBack }
-{
-    0
-}
+{}

@@ -3,28 +3,46 @@
 
 ghost use Rattle.std.specs.Prelude.{◌≡◌};
 ghost use Rattle.refusal.specs.Numbers.{number_of};
+ghost use Rattle.refusal.specs.declared.Failure.TheVariants.{Refused, OutOfMemory};
 
+use std::alloc::AllocError;
 use std::fmt;
+use thiserror::Error;
 
 // The reasons, each under the number that operators know it by. The first nine come from the
 // input, the others from the state.
-#[derive(Clone, Copy, PartialEq, Eq, Debug)]
+#[derive(Clone, Copy, PartialEq, Eq, Debug, Error)]
 pub enum Reason {
-    TooShort,
-    LimitOutOfRange,
-    HeadingOutOfRange,
-    SpoilByZero,
-    BlockLength,
-    NoWholeFrame,
-    ScriptShape,
-    UnknownLetter,
-    PayloadTooLong,
-    NotInitial,
-    WrongState,
-    AboveAgreedSize,
-    WindowFull,
-    NothingWaits,
-    LineFull,
+    #[error("buffer, store or memory too short")]
+    TooShort = 1,
+    #[error("limit out of range")]
+    LimitOutOfRange = 2,
+    #[error("heading field out of range")]
+    HeadingOutOfRange = 3,
+    #[error("spoil by 0")]
+    SpoilByZero = 4,
+    #[error("block of 0 or over 520 bytes")]
+    BlockLength = 5,
+    #[error("no whole frame")]
+    NoWholeFrame = 6,
+    #[error("script of a wrong shape")]
+    ScriptShape = 7,
+    #[error("unknown letter")]
+    UnknownLetter = 8,
+    #[error("payload above 512 bytes")]
+    PayloadTooLong = 9,
+    #[error("open outside Initial")]
+    NotInitial = 11,
+    #[error("not in this state")]
+    WrongState = 12,
+    #[error("payload above the agreed size")]
+    AboveAgreedSize = 13,
+    #[error("as many outstanding as the agreed offset")]
+    WindowFull = 14,
+    #[error("nothing waits")]
+    NothingWaits = 15,
+    #[error("sixteen wait")]
+    LineFull = 16,
 }
 
 // The layers, from the ground up.
@@ -38,32 +56,57 @@ pub enum Layer {
 }
 
 // A layer above passes a refusal on as it is, by `?`.
-#[derive(Clone, Copy, PartialEq, Eq, Debug)]
+#[derive(Clone, Copy, PartialEq, Eq, Debug, Error)]
+#[error("refusal {number} ({layer}): {reason}", number = .reason.number())]
 pub struct Refusal {
     pub reason: Reason,
     pub layer: Layer,
+}
+
+// A refusal of a call that was handed something to keep, which it hands back.
+#[derive(Drop, Error)]
+#[error("{refusal}")]
+pub struct Declined<T> {
+    pub refusal: Refusal,
+    pub given: T,
+}
+
+// Why a call that reaches for memory came to nothing.
+#[derive(Clone, Copy, PartialEq, Eq, Debug, Error)]
+pub enum Failure {
+    #[error("{0}")]
+    Refused(Refusal),
+    #[error("{0}")]
+    OutOfMemory(AllocError),
 }
 
 impl Reason {
     pub fn number(self) -> u8
         ensures { result ≡ number_of self }
     {
-        match self {
-            Reason::TooShort => 1,
-            Reason::LimitOutOfRange => 2,
-            Reason::HeadingOutOfRange => 3,
-            Reason::SpoilByZero => 4,
-            Reason::BlockLength => 5,
-            Reason::NoWholeFrame => 6,
-            Reason::ScriptShape => 7,
-            Reason::UnknownLetter => 8,
-            Reason::PayloadTooLong => 9,
-            Reason::NotInitial => 11,
-            Reason::WrongState => 12,
-            Reason::AboveAgreedSize => 13,
-            Reason::WindowFull => 14,
-            Reason::NothingWaits => 15,
-            Reason::LineFull => 16,
+        self as u8
+    }
+}
+
+impl Layer {
+    // The refusal that this layer gives.
+    pub fn refuses(self, reason: Reason) -> Refusal
+        ensures { result ≡ record { reason = reason; layer = self } }
+    {
+        Refusal {
+            reason,
+            layer: self,
+        }
+    }
+
+    // That refusal, with what the call was given to keep.
+    pub fn declines<T>(self, reason: Reason, given: T) -> Declined<T>
+        ensures refusal { result.refusal ≡ record { reason = reason; layer = self } }
+        ensures given { result.given ≡ given }
+    {
+        Declined {
+            refusal: self.refuses(reason),
+            given,
         }
     }
 }
@@ -76,25 +119,29 @@ impl Refusal {
     }
 }
 
-impl fmt::Display for Reason {
-    fn fmt<W: fmt::Write>(&self, f: &mut fmt::Formatter<W>) -> fmt::Result {
-        f.write_str(match *self {
-            Reason::TooShort => "buffer, store or memory too short",
-            Reason::LimitOutOfRange => "limit out of range",
-            Reason::HeadingOutOfRange => "heading field out of range",
-            Reason::SpoilByZero => "spoil by 0",
-            Reason::BlockLength => "block of 0 or over 520 bytes",
-            Reason::NoWholeFrame => "no whole frame",
-            Reason::ScriptShape => "script of a wrong shape",
-            Reason::UnknownLetter => "unknown letter",
-            Reason::PayloadTooLong => "payload above 512 bytes",
-            Reason::NotInitial => "open outside Initial",
-            Reason::WrongState => "not in this state",
-            Reason::AboveAgreedSize => "payload above the agreed size",
-            Reason::WindowFull => "as many outstanding as the agreed offset",
-            Reason::NothingWaits => "nothing waits",
-            Reason::LineFull => "sixteen wait",
-        })
+// A caller that gives up what was handed back passes the refusal on by `?`.
+impl<T: Drop> From<Declined<T>> for Refusal {
+    ghost from_gives = { λ declined r. r ≡ declined.refusal };
+
+    fn from(declined: Declined<T>) -> Refusal {
+        declined.refusal
+    }
+}
+
+// Both by hand: what the derive would write says of no variant that it is the one made.
+impl From<Refusal> for Failure {
+    ghost from_gives = { λ refusal f. f ≡ Refused refusal };
+
+    fn from(refusal: Refusal) -> Failure {
+        Failure::Refused(refusal)
+    }
+}
+
+impl From<AllocError> for Failure {
+    ghost from_gives = { λ e f. f ≡ OutOfMemory e };
+
+    fn from(e: AllocError) -> Failure {
+        Failure::OutOfMemory(e)
     }
 }
 
@@ -107,15 +154,6 @@ impl fmt::Display for Layer {
             Layer::End => "end",
             Layer::Bench => "bench",
         })
-    }
-}
-
-impl fmt::Display for Refusal {
-    fn fmt<W: fmt::Write>(&self, f: &mut fmt::Formatter<W>) -> fmt::Result {
-        let number = self.reason.number();
-        let reason = self.reason;
-        let layer = self.layer;
-        write!(f, "refusal {number} ({layer}): {reason}")
     }
 }
 

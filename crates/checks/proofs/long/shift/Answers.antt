@@ -1,5 +1,5 @@
 use Rattle.std.proofs.Common.{arith}
-use lib.Bits.{and_high}
+use Rattle.std.proofs.lemmas.Nat.Bits.{and_high}
 use Rattle.std.proofs.lemmas.Bool.Decides.{nat_tests}
 use Rattle.checks.proofs.long.shift.Goals as goal
 

@@ -1,6 +1,7 @@
+use Rattle.std.proofs.Common.{◌≡◌, take}
+use Rattle.block_check.specs.Law.{Bytes}
 use Rattle.checks.specs.Sums.{sum_value}
-use Rattle.checks.proofs.Reading.{Read}
 use Rattle.checks.proofs.sum.sum_of.Given as goal
 
 abbrev pub invariant-loop-b : goal.invariant-loop-b
-invariant-loop-b l = Read sum_value l.bytes l.b-index l.total
+invariant-loop-b l = (l.total ≡ sum_value (take l.b-index l.bytes)) × Bytes (take l.b-index l.bytes)
