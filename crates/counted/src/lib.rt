@@ -27,8 +27,7 @@ impl<L: Line> Counted<L> {
     pub fn refused(&self) -> usize
         ensures { result ≡ self.now.refused }
     {
-        let Counted { refused, .. } = self;
-        *refused
+        self.refused
     }
 }
 
@@ -43,6 +42,7 @@ impl<L: Line> Line for Counted<L> {
 
     ghost sizes = { Prim.search rules };
 
+    // The trait's clauses stand again in `put` and `take`: left out, what the trait ensures is no longer shown.
     fn put(&mut self, block: &[u8]) -> Result<(), Refusal>
         requires { L.Line.rule self.old.line }
         ensures ruled { L.Line.rule self.new.line }
@@ -52,8 +52,7 @@ impl<L: Line> Line for Counted<L> {
     {
         let answer = self.line.put(block);
         if answer.is_err() {
-            let refused = self.refused;
-            self.refused = refused.saturating_add(1);
+            self.refused = self.refused.saturating_add(1);
         }
         answer
     }

@@ -6,11 +6,18 @@ ghost use Rattle.line.specs.Blocks.{carried, put_answer, put_after, take_answer,
 
 use refusal::Refusal;
 
+// How many blocks wait at most.
+pub const MOST: usize = 16;
+
+// How many bytes a block has at most.
+pub const LONGEST: usize = 520;
+
 pub trait Line {
     // The blocks that wait.
     ghost waiting: { Self → List (List ℕ) };
 
     // What the line relies on: making sets it up, each call needs it and keeps it.
+    // The calls say so though `held` says it of every value, since a line's form is that each call shows it.
     ghost rule: { Self → Type 0 };
 
     // Adds a block at the end.
@@ -21,6 +28,7 @@ pub trait Line {
         ensures after { waiting self.new ≡ put_after (waiting self.old) block.now };
 
     // Moves the oldest block to the front of a buffer, and answers its length.
+    // A length beside the buffer: the caller lends the memory, here and in every layer.
     fn take(&mut self, buf: &mut [u8]) -> Result<usize, Refusal>
         requires { rule self.old }
         ensures ruled { rule self.new }

@@ -12,18 +12,13 @@ mod tests {
     use std::test::Fail;
     use wire_line::WireLine;
 
+    // As the tests of scripts make lines too: a crate for these two makers would be no plainer.
     fn rows(heap: Global) -> Result<RowLine, Fail> {
-        match RowLine::new(vec![in heap; Row::blank(); 16]?) {
-            Ok(line) => Ok(line),
-            Err(_) => Err(Fail::new("no line")),
-        }
+        RowLine::new(vec![in heap; Row::blank(); 16]?).map_err(|_| Fail::new("no line"))
     }
 
     fn wires(heap: Global) -> Result<WireLine, Fail> {
-        match WireLine::new(vec![in heap; 0; 16672]?) {
-            Ok(line) => Ok(line),
-            Err(_) => Err(Fail::new("no line")),
-        }
+        WireLine::new(vec![in heap; 0; 16672]?).map_err(|_| Fail::new("no line"))
     }
 
     // Fifteen wait on the one and two on the other: fourteen go over, in order.

@@ -1,4 +1,5 @@
 // What a queue does, said of its contents and its capacity. No call allocates.
+// Each call says that it keeps the capacity: one equation of whole queues would be no shorter, and callers split it.
 ghost use Rattle.std.specs.Prelude.{◌≡◌, ◌-◌, min, [], length, take, drop, vec_len, ◌==◌};
 ghost use Rattle.std.specs.List.{slice_get};
 ghost use Rattle.queue.specs.Contents.{contents, capacity, push_answer, push_after, extend_answer, extend_after, copied};
@@ -69,6 +70,7 @@ impl<T: Copy> Queue<T> {
     }
 
     // Lets the `n` oldest go, or all where there are no more.
+    #[tactic(auto, using(crate::proofs::Memory::dropped))]
     pub fn drop_oldest(&mut self, n: usize)
         ensures after { contents self.new ≡ drop n (contents self.old) }
         ensures capacity { capacity self.new ≡ capacity self.old }
@@ -78,15 +80,18 @@ impl<T: Copy> Queue<T> {
         self.count -= gone;
     }
 
+    // What waits, oldest first.
+    pub fn as_slice(&self) -> &[T]
+        ensures { result.now ≡ contents self.now }
+    {
+        &self.memory[..self.count]
+    }
+
     // The i-th oldest, from 0.
     pub fn get(&self, i: usize) -> Option<T>
         ensures { result ≡ slice_get (contents self.now) i }
     {
-        if i < self.count {
-            Some(self.memory[i])
-        } else {
-            None
-        }
+        self.as_slice().get(i).copied()
     }
 
     // Copies the oldest to the front of `out`, as many as there are and as fit, and answers how many.
@@ -95,7 +100,7 @@ impl<T: Copy> Queue<T> {
         ensures out { out.new ≡ copied (contents self.now) out.old }
     {
         let n = self.count.min(out.len());
-        out[0..n].copy_from_slice(&self.memory[0..n]);
+        out[..n].copy_from_slice(&self.as_slice()[..n]);
         n
     }
 

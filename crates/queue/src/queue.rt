@@ -1,6 +1,7 @@
 ghost use Rattle.std.specs.Prelude.{◌≤◌, vec_len};
 
 // What waits lies at the front of the memory, oldest first.
+// A count beside the `Vec`: the memory is the maker's, handed back as long as it came, and no call may allocate.
 #[derive(Drop)]
 pub struct Queue<T> {
     pub(crate) memory: Vec<T>,

@@ -1,8 +1,7 @@
 -- One block more from line to line.
-use Rattle.std.proofs.Common.{◌≡◌, ℕ, ◌+◌, ◌-◌, ◌<◌, List, [], ◌∷◌, ◌++◌, length, get_or, take, drop, sym, refl, ap, ◌∙◌, arith}
+use Rattle.std.proofs.Common.{◌≡◌, ℕ, ◌+◌, ◌<◌, List, [], ◌∷◌, ◌++◌, length, get_or, take, drop, sym, refl, ap, ◌∙◌}
 use Rattle.std.proofs.lemmas.List.{drop_more, take_more, append_assoc}
 use Rattle.refusal.specs.Buffers.{over}
-use Rattle.refusal.proofs.Buffers.{over_front}
 use Rattle.line.specs.Blocks.{oldest, later}
 use Rattle.relay.specs.Moving.{passed}
 
@@ -13,7 +12,7 @@ passed_push (x ∷ bs) b buf = passed_push bs b (over x buf)
 
 -- what waits from place i on begins with the block there
 module _ (from : List (List ℕ)) (i : ℕ) (here : i < length from) where
-  pub oldest_is : oldest (drop i from) ≡ get_or from i []
+  oldest_is : oldest (drop i from) ≡ get_or from i []
   oldest_is = ap oldest (drop_more from i [] here)
 
   pub later_is : later (drop i from) ≡ drop (i + 1) from
@@ -29,10 +28,5 @@ module _ (from : List (List ℕ)) (i : ℕ) (here : i < length from) where
       ap (λ b. over b (passed (take i from) buf)) oldest_is
       ∙ sym (ap (λ x. passed x buf) (take_more from i [] here) ∙ passed_push (take i from) (get_or from i []) buf)
 
--- the block at the front of the buffer
-pub front_is : (b buf full : List ℕ) (n : ℕ) → full ≡ over b buf → n ≡ length b → take (n - 0) full ≡ b
-front_is b buf full n e l = let z : n - 0 ≡ length b = omega arith in ap (λ x. take (n - 0) x) e ∙ over_front b buf (n - 0) z
-
-pub passed_none : (buf : List ℕ) → buf ≡ passed [] buf
-unfolding passed
-passed_none buf = refl
+-- what the loop's proof needs
+pub ruleset moving = (later_is, added_is, passed_is)

@@ -6,7 +6,7 @@ ghost use Rattle.refusal.specs.Buffers.{over};
 ghost use Rattle.line.specs.Blocks.{oldest, later};
 ghost use Rattle.relay.specs.Moving.{relay_answer, from_after, to_after, buffer_after};
 
-use line::Line;
+use line::{LONGEST, Line, MOST};
 use refusal::{Layer, Reason, Refusal};
 
 // The oldest block of the one line goes to the end of the other.
@@ -19,24 +19,22 @@ fn move_one<A: Line, B: Line>(from: &mut A, to: &mut B, buf: &mut [u8])
     ensures buffer { buf.new ≡ over (oldest (A.Line.waiting from.old)) buf.old }
 {
     let n = from.take(buf).unwrap();
-    to.put(&buf[0..n]).unwrap();
+    to.put(&buf[..n]).unwrap();
 }
 
 // Moves what waits on one line to the other, oldest first, until the one is empty or sixteen wait on the other, and
 // answers how many blocks went over.
+#[tactic(auto, using(crate::proofs::Moving::moving), unfolding(crate::specs::Moving::passed))]
 pub fn relay<A: Line, B: Line>(from: &mut A, to: &mut B, buf: &mut [u8]) -> Result<usize, Refusal>
     ensures answer { result ≡ relay_answer (A.Line.waiting from.old) (B.Line.waiting to.old) buf.old }
     ensures from { A.Line.waiting from.new ≡ from_after (A.Line.waiting from.old) (B.Line.waiting to.old) buf.old }
     ensures to { B.Line.waiting to.new ≡ to_after (A.Line.waiting from.old) (B.Line.waiting to.old) buf.old }
     ensures buffer { buf.new ≡ buffer_after (A.Line.waiting from.old) (B.Line.waiting to.old) buf.old }
 {
-    if buf.len() < 520 {
-        return Err(Refusal {
-            reason: Reason::TooShort,
-            layer: Layer::Line,
-        });
+    if buf.len() < LONGEST {
+        return Err(Layer::Line.refuses(Reason::TooShort));
     }
-    let count = from.count().min(16 - to.count());
+    let count = from.count().min(MOST - to.count());
     for _moved in 0..count {
         move_one(from, to, buf);
     }

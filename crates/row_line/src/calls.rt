@@ -1,6 +1,5 @@
 // The calls of a line, on a line of rows.
 ghost use Rattle.std.specs.Prelude.{◌≡◌, ◌<◌, ◌≤◌, [], length, IfOk, vec_len, MatchResult};
-ghost use Rattle.refusal.specs.Buffers.{over};
 ghost use Rattle.refusal.specs.declared.Reason.TheVariants.{TooShort};
 ghost use Rattle.line.specs.Blocks.{refusal};
 ghost use Rattle.row_line.specs.Waiting.{block_of, waits, relies};
@@ -8,37 +7,18 @@ ghost use Rattle.row_line.specs.Relied.{relied};
 
 use crate::row::Row;
 use crate::rows::RowLine;
-use line::Line;
+use line::{LONGEST, Line, MOST};
 use queue::Queue;
-use refusal::{Layer, Reason, Refusal};
-
-// Every refusal of a line is the line's own.
-fn refused(reason: Reason) -> Refusal
-    ensures { result ≡ refusal reason }
-{
-    Refusal {
-        reason,
-        layer: Layer::Line,
-    }
-}
-
-// Memory for fewer than sixteen rows, handed back with the refusal.
-#[derive(Drop)]
-pub struct Short {
-    pub refusal: Refusal,
-    pub memory: Vec<Row>,
-}
+use refusal::{Declined, Layer, Reason, Refusal};
 
 impl RowLine {
-    pub fn new(memory: Vec<Row>) -> Result<RowLine, Short>
-        ensures cases { MatchResult result (λ x. (16 ≤ vec_len memory) × (waits x ≡ [])) (λ e. (vec_len memory < 16) × (e.refusal ≡ refusal TooShort) × (e.memory ≡ memory)) }
+    // Memory for fewer than sixteen rows is handed back with the refusal.
+    pub fn new(memory: Vec<Row>) -> Result<RowLine, Declined<Vec<Row>>>
+        ensures cases { MatchResult result (λ x. (16 ≤ vec_len memory) × (waits x ≡ [])) (λ e. (vec_len memory < 16) × (e.refusal ≡ refusal TooShort) × (e.given ≡ memory)) }
         ensures ruled { IfOk result relies }
     {
-        if memory.len() < 16 {
-            return Err(Short {
-                refusal: refused(Reason::TooShort),
-                memory,
-            });
+        if memory.len() < MOST {
+            return Err(Layer::Line.declines(Reason::TooShort, memory));
         }
         Ok(RowLine {
             rows: Queue::new(memory),
@@ -46,21 +26,13 @@ impl RowLine {
     }
 }
 
-// Copies `from` to the front of `to`.
-fn copy_front(to: &mut [u8], from: &[u8])
-    requires { length from.now ≤ length to.old }
-    ensures { to.new ≡ over from.now to.old }
-{
-    to[0..from.len()].copy_from_slice(from);
-}
-
 impl Row {
     fn of(block: &[u8]) -> Row
         requires { (1 ≤ length block.now) × (length block.now ≤ 520) }
         ensures { block_of result ≡ block.now }
     {
-        let mut bytes = [0; 520];
-        copy_front(&mut bytes, block);
+        let mut bytes = [0; LONGEST];
+        bytes[..block.len()].copy_from_slice(block);
         Row {
             len: block.len(),
             bytes,
@@ -70,7 +42,7 @@ impl Row {
     fn block(&self) -> &[u8]
         ensures { result.now ≡ block_of self.now }
     {
-        &self.bytes[0..self.len]
+        &self.bytes[..self.len]
     }
 }
 
@@ -85,28 +57,31 @@ impl Line for RowLine {
 
     ghost sizes = { λ x. (relied x.rows x.long x.few).2 };
 
+    // The tests are those of the wire line too: a function for each, with its definition, would be no plainer.
     fn put(&mut self, block: &[u8]) -> Result<(), Refusal> {
-        if block.is_empty() || block.len() > 520 {
-            return Err(refused(Reason::BlockLength));
+        if block.is_empty() || block.len() > LONGEST {
+            return Err(Layer::Line.refuses(Reason::BlockLength));
         }
-        if self.rows.len() >= 16 {
-            return Err(refused(Reason::LineFull));
+        if self.rows.len() >= MOST {
+            return Err(Layer::Line.refuses(Reason::LineFull));
         }
         // There is memory for sixteen, so this cannot fail.
-        let _ = self.rows.push(Row::of(block));
+        self.rows.push(Row::of(block)).unwrap();
         Ok(())
     }
 
+    #[tactic(auto, using(crate::specs::Relied::relied))]
     fn take(&mut self, buf: &mut [u8]) -> Result<usize, Refusal> {
-        if buf.len() < 520 {
-            return Err(refused(Reason::TooShort));
+        if buf.len() < LONGEST {
+            return Err(Layer::Line.refuses(Reason::TooShort));
         }
-        let Some(row) = self.rows.get(0) else {
-            return Err(refused(Reason::NothingWaits));
+        let Some(row) = self.rows.as_slice().first() else {
+            return Err(Layer::Line.refuses(Reason::NothingWaits));
         };
-        copy_front(buf, row.block());
+        let n = row.len;
+        buf[..n].copy_from_slice(row.block());
         self.rows.drop_oldest(1);
-        Ok(row.len)
+        Ok(n)
     }
 
     fn count(&self) -> usize {

@@ -5,7 +5,6 @@ pub mod calls;
 pub mod row;
 pub mod rows;
 
-pub use calls::Short;
 pub use row::Row;
 pub use rows::RowLine;
 

@@ -1,10 +1,13 @@
 ghost use Rattle.std.specs.Prelude.{◌≡◌, ◌≤◌, length, replicate};
 
+use line::LONGEST;
+
 // A row of memory, of which the first `len` bytes are a block.
+// A length beside the bytes, as a rule of the project has rows. An `ArrayVec` can't be copied as a queue's items are.
 #[derive(Clone, Copy)]
 pub struct Row {
     pub(crate) len: usize,
-    pub(crate) bytes: [u8; 520],
+    pub(crate) bytes: [u8; LONGEST],
     ghost some: { 1 ≤ len },
     ghost short: { len ≤ 520 },
     ghost whole: { length bytes ≡ 520 },
@@ -17,7 +20,7 @@ impl Row {
     {
         Row {
             len: 1,
-            bytes: [0; 520],
+            bytes: [0; LONGEST],
         }
     }
 }

@@ -1,4 +1,3 @@
-pub mod OneOf
 pub mod Scanning
 pub mod Writing
 pub mod Rereading

@@ -8,7 +8,7 @@ use Rattle.wire.specs.declared.scan.Act.{Act}
 use Rattle.wire.specs.declared.scan.Act.TheVariants.{Begin, Finish, Escape, Keep}
 use Rattle.wire.specs.Form.{Found, escaped, inner, framed, act_in, act_of, acted, scanned, found}
 use Rattle.wire.specs.Theorems.{FramedIn, gap}
-use Rattle.wire.proofs.OneOf.{one_of}
+use Rattle.std.proofs.lemmas.Bool.Decides.{nat_tests}
 use Rattle.wire.proofs.Writing.{inner_nil, inner_push}
 
 -- the bytes of the frame that the scan has behind it
@@ -29,7 +29,7 @@ moved xs ys f e s h = let k = s h in (k.0, e ∙ k.1)
 
 -- a byte behind 1Bh that stands for another is that byte's wire form
 twin : (b : ℕ) → (eqb b 0x82 || (eqb b 0x83 || eqb b 0x9b)) ≡ true → 0x1b ∷ b ∷ [] ≡ escaped (b - 0x80)
-twin b e = one_of (λ z. 0x1b ∷ z ∷ [] ≡ escaped (z - 0x80)) b 0x82 0x83 0x9b e refl refl refl
+twin b e = grind (arith, nat_tests)
 
 -- one byte, where the claim holds of what follows
 module _ (bs : List ℕ) (on : (q : Place) (v : List ℕ) → Stands (behind q v ++ bs) (scanned q v bs)) (sofar : List ℕ) (b : ℕ) where

@@ -9,12 +9,11 @@ ghost use Rattle.wire.specs.Theorems.{ReadBack, FramedIn};
 
 // Reading what was written gives the block and what follows it, and a block that was found stands in the input as
 // its frame.
-pub fn reading_undoes_writing() -> u8
+#[tactic(auto, using(crate::proofs::Rereading::read_back, crate::proofs::Standing::framed_in))]
+pub fn reading_undoes_writing()
     ensures read_back { ReadBack }
     ensures framed_in { FramedIn }
-{
-    0
-}
+{}
 
 #[cfg(test)]
 mod tests {
@@ -22,13 +21,6 @@ mod tests {
     use super::write::{measure, write};
     use refusal::Refusal;
     use std::test::Fail;
-
-    fn number<T: Drop>(r: Result<T, Refusal>) -> u8 {
-        match r {
-            Ok(_) => 0,
-            Err(refusal) => refusal.number(),
-        }
-    }
 
     #[test]
     fn escapes_and_keeps_what_lies_behind(rt: HostRuntime) -> Result<(), Fail> {
@@ -65,10 +57,16 @@ mod tests {
     #[test]
     fn refuses_a_block_of_0_or_521_bytes(rt: HostRuntime) {
         let mut out = [0xee; 1042];
-        assert_eq!(rt; number(measure(&[])), 5);
-        assert_eq!(rt; number(measure(&[0x41; 521])), 5);
-        assert_eq!(rt; number(write(&[0x41; 521], &mut out)), 5);
-        assert_eq!(rt; number(write(&[0x41], &mut out[0..1041])), 1);
+        assert_eq!(rt; measure(&[]).err().map(Refusal::number), Some(5));
+        assert_eq!(rt; measure(&[0x41; 521]).err().map(Refusal::number), Some(5));
+        assert_eq!(rt;
+            write(&[0x41; 521], &mut out).err().map(Refusal::number),
+            Some(5)
+        );
+        assert_eq!(rt;
+            write(&[0x41], &mut out[0..1041]).err().map(Refusal::number),
+            Some(1)
+        );
         assert!(rt; out == [0xee; 1042]);
     }
 
@@ -78,8 +76,11 @@ mod tests {
         let mut wire = [0x41; 523];
         wire[0] = 0x02;
         wire[522] = 0x03;
-        assert_eq!(rt; number(read(&wire, &mut out)), 6);
-        assert_eq!(rt; number(read(&wire, &mut out[0..519])), 1);
+        assert_eq!(rt; read(&wire, &mut out).err().map(Refusal::number), Some(6));
+        assert_eq!(rt;
+            read(&wire, &mut out[0..519]).err().map(Refusal::number),
+            Some(1)
+        );
         assert!(rt; out == [0xee; 520]);
     }
 }

@@ -3,27 +3,24 @@ ghost use Rattle.std.specs.Prelude.{◌≡◌};
 ghost use Rattle.wire.specs.Calls.{shown, read_answer, read_buffer};
 
 use crate::scan::scan;
+use crate::write::LONGEST_BLOCK;
+use arrayvec::ArrayVec;
 use refusal::{Layer, Reason, Refusal};
 
 // Writes the first block of the input to the front of `out`, and answers its length and the rest of the input.
+// A length beside the buffer: the caller lends the memory, here and in every layer.
 pub fn read<'a>(input: &'a [u8], out: &mut [u8]) -> Result<(usize, &'a [u8]), Refusal>
     ensures answer { shown result ≡ read_answer input.now out.old }
     ensures after { out.new ≡ read_buffer input.now out.old }
 {
-    if out.len() < 520 {
-        return Err(Refusal {
-            reason: Reason::TooShort,
-            layer: Layer::Wire,
-        });
+    if out.len() < LONGEST_BLOCK {
+        return Err(Layer::Wire.refuses(Reason::TooShort));
     }
-    let mut frame = [0u8; 520];
+    let mut frame = ArrayVec::new();
     let (n, rest) = scan(input, &mut frame);
     if n == 0 {
-        return Err(Refusal {
-            reason: Reason::NoWholeFrame,
-            layer: Layer::Wire,
-        });
+        return Err(Layer::Wire.refuses(Reason::NoWholeFrame));
     }
-    out[0..n].copy_from_slice(&frame[0..n]);
+    out[..n].copy_from_slice(&frame);
     Ok((n, rest))
 }

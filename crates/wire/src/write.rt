@@ -1,20 +1,24 @@
 // The writer of the wire form.
-ghost use Rattle.std.specs.Prelude.{◌≡◌, ◌+◌, ◌≤◌, length, if◌then◌else◌, Ok, Err};
-ghost use Rattle.std.proofs.lemmas.List.Edits.{sets};
+ghost use Rattle.std.specs.Prelude.{◌≡◌, ◌+◌, ◌≤◌, ◌++◌, length, count_by, if◌then◌else◌, Ok, Err};
+ghost use Rattle.arrayvec.specs.ArrayVec.{array_vec_len};
 ghost use Rattle.refusal.specs.declared.Reason.TheVariants.{BlockLength};
 ghost use Rattle.wire.specs.Calls.{refusal, unfit, measure_answer, write_answer, write_buffer};
 ghost use Rattle.wire.specs.Form.{reserved, escaped};
 
+use arrayvec::ArrayVec;
 use refusal::{Layer, Reason, Refusal};
+
+// How many bytes a block has at most.
+pub const LONGEST_BLOCK: usize = 520;
+
+// How many bytes a frame has at most: the two ends, and two for each byte of the block.
+pub const LONGEST_FRAME: usize = 2 * LONGEST_BLOCK + 2;
 
 fn check_length(block: &[u8]) -> Result<(), Refusal>
     ensures { result ≡ (if unfit block.now then Err (refusal BlockLength) else Ok tt) }
 {
-    if block.len() == 0 || block.len() > 520 {
-        return Err(Refusal {
-            reason: Reason::BlockLength,
-            layer: Layer::Wire,
-        });
+    if block.is_empty() || block.len() > LONGEST_BLOCK {
+        return Err(Layer::Wire.refuses(Reason::BlockLength));
     }
     Ok(())
 }
@@ -22,57 +26,55 @@ fn check_length(block: &[u8]) -> Result<(), Refusal>
 fn is_reserved(b: u8) -> bool
     ensures { result ≡ reserved b }
 {
-    match b {
-        0x02 | 0x03 | 0x1b => true,
-        _ => false,
+    matches!(b, 0x02 | 0x03 | 0x1b)
+}
+
+// Adds the byte as it goes out inside a frame.
+fn push_escaped(frame: &mut ArrayVec<u8, LONGEST_FRAME>, b: u8)
+    requires { array_vec_len frame.old + 2 ≤ LONGEST_FRAME }
+    ensures { frame.new.items ≡ frame.old.items ++ escaped b }
+{
+    if is_reserved(b) {
+        frame.push(0x1b);
+        frame.push(b + 0x80);
+    } else {
+        frame.push(b);
     }
 }
 
-// Writes the byte as it goes out inside a frame, from place `n` on, and answers the place behind it.
-fn put(b: u8, out: &mut [u8], n: usize) -> usize
-    requires { n + 2 ≤ length out.old }
-    ensures next { result ≡ n + length (escaped b) }
-    ensures after { out.new ≡ sets out.old n (escaped b) }
+// How many bytes of the block go out escaped.
+fn count_reserved(block: &[u8]) -> usize
+    ensures { result ≡ count_by reserved block.now }
 {
-    if is_reserved(b) {
-        out[n] = 0x1b;
-        out[n + 1] = b + 0x80;
-        n + 2
-    } else {
-        out[n] = b;
-        n + 1
-    }
+    block.iter().filter(|b| is_reserved(**b)).count()
 }
 
 // How many bytes the block has on the wire.
+#[tactic(auto, using(crate::proofs::Writing::length_framed))]
 pub fn measure(block: &[u8]) -> Result<usize, Refusal>
     ensures { result ≡ measure_answer block.now }
 {
     check_length(block)?;
-    let mut n: usize = 2;
-    for b in block {
-        n += if is_reserved(*b) { 2 } else { 1 };
-    }
-    Ok(n)
+    Ok(block.len() + count_reserved(block) + 2)
 }
 
 // Writes the block's frame to the front of `out`, and answers its length.
+// A length beside the buffer: the caller lends the memory, here and in every layer.
+#[tactic(auto, using(crate::proofs::Writing::grown, crate::proofs::Writing::front_fits), unfolding(crate::specs::Form::inner))]
 pub fn write(block: &[u8], out: &mut [u8]) -> Result<usize, Refusal>
     ensures answer { result ≡ write_answer block.now out.old }
     ensures after { out.new ≡ write_buffer block.now out.old }
 {
-    if out.len() < 1042 {
-        return Err(Refusal {
-            reason: Reason::TooShort,
-            layer: Layer::Wire,
-        });
+    if out.len() < LONGEST_FRAME {
+        return Err(Layer::Wire.refuses(Reason::TooShort));
     }
     check_length(block)?;
-    out[0] = 0x02;
-    let mut n = 1;
+    let mut frame = ArrayVec::new();
+    frame.push(0x02);
     for b in block {
-        n = put(*b, out, n);
+        push_escaped(&mut frame, *b);
     }
-    out[n] = 0x03;
-    Ok(n + 1)
+    frame.push(0x03);
+    out[..frame.len()].copy_from_slice(&frame);
+    Ok(frame.len())
 }

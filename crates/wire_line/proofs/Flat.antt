@@ -1,13 +1,13 @@
 -- Frames one behind the other read back as the blocks that they are made of.
-use Rattle.std.specs.Prelude.{◌≡◌, ℕ, zero, suc, ◌-◌, ◌*◌, ◌<◌, ◌≤◌, true, List, [], ◌∷◌, ◌++◌, length, refl}
+use Rattle.std.specs.Prelude.{◌≡◌, ℕ, zero, suc, ◌-◌, ◌*◌, ◌<◌, ◌≤◌, true, List, [], ◌∷◌, ◌++◌, length, drop, refl}
 use Rattle.std.proofs.Common.{sym, ap, ◌∙◌, sub-one, arith, lit≤}
-use Rattle.std.proofs.lemmas.List.{append-nil, append_assoc, length-append}
+use Rattle.std.proofs.lemmas.List.{append-nil, append_assoc, length-append, drop_at}
 use Rattle.std.proofs.lemmas.Bool.{and_parts, ltb-true, leb-true}
 use Rattle.line.specs.Blocks.{carried}
-use Rattle.wire.specs.Form.{Found, inner, framed, found}
+use Rattle.wire.specs.Form.{Found, framed, found}
 use Rattle.wire.proofs.Rereading.{read_back}
-use Rattle.wire.proofs.Writing.{escaped_fits}
-use Rattle.wire_line.specs.Frames.{blocks, flat, Carries}
+use Rattle.wire.proofs.Writing.{inner_fits}
+use Rattle.wire_line.specs.Frames.{blocks, flat, Begins, Carries}
 
 pub sizes : (b : List ℕ) → carried b ≡ true → (1 ≤ length b) × (length b ≤ 520)
 sizes b e = let p = and_parts _ _ e in (ltb-true 0 (length b) p.0, leb-true (length b) 520 p.1)
@@ -17,11 +17,6 @@ first b bs each = each 0 (omega arith)
 
 pub others : (b : List ℕ) (bs : List (List ℕ)) → Carries (b ∷ bs) → Carries bs
 others b bs each k h = each (suc k) (omega arith)
-
-inner_fits : (bs : List ℕ) → length (inner bs) ≤ 2 * length bs
-unfolding inner
-inner_fits [] = lit≤ tt
-inner_fits (b ∷ bs) = let e = escaped_fits b in let l = inner_fits bs in simp length-append (omega arith)
 
 pub framed_fits : (b : List ℕ) → length b ≤ 520 → length (framed b) ≤ 1042
 framed_fits b h = let l = inner_fits b in simp length-append (omega arith)
@@ -58,3 +53,12 @@ carries_push [] b each e zero h = e
 carries_push [] b each e (suc k) h = absurd (omega arith)
 carries_push (c ∷ bs) b each e zero h = first c bs each
 carries_push (c ∷ bs) b each e (suc k) h = carries_push bs b (others c bs each) e k (omega arith)
+
+-- what lies behind the first frame
+pub drop_first : (bytes : List ℕ) → Begins bytes → drop (length bytes - length (found bytes).rest) bytes ≡ (found bytes).rest
+drop_first bytes b =
+    let first = framed (found bytes).block in
+    let rest = (found bytes).rest in
+    let n = length bytes - length rest in
+    let l : n ≡ length first = omega (arith, ap length b.whole, length-append first rest) in
+    ap (drop n) b.whole ∙ drop_at first rest n (sym l)

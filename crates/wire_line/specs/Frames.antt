@@ -26,7 +26,8 @@ Carries bs = (k : ℕ) → k < length bs → carried (slice_index_or bs k []) �
 
 -- There is memory for sixteen frames, no more than sixteen blocks wait, the bytes are exactly their frames, and
 -- each is a block that a line carries.
-abbrev pub Kept : Queue ℕ → ℕ → Type 0
-Kept bytes count =
-    (16672 ≤ capacity bytes) × (count ≤ 16) × (contents bytes ≡ flat (blocks count (contents bytes)))
-    × Carries (blocks count (contents bytes))
+pub record Kept (bytes : Queue ℕ) (count : ℕ) : Type 0 where
+  pub long : 16672 ≤ capacity bytes
+  pub few : count ≤ 16
+  pub whole : contents bytes ≡ flat (blocks count (contents bytes))
+  pub each : Carries (blocks count (contents bytes))

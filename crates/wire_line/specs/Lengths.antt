@@ -12,8 +12,8 @@ unfolding blocks
 length-blocks zero bytes = refl
 length-blocks (suc n) bytes = ap suc (length-blocks n (found bytes).rest)
 
-pub length-waits : (x : WireLine) → length (waits x) ≡ x.count
-length-waits x = length-blocks x.count (contents x.bytes)
+pub length_waits : (x : WireLine) → length (waits x) ≡ x.count
+length_waits x = length-blocks x.count (contents x.bytes)
 
 pub few_wait : (x : WireLine) → length (waits x) ≤ 16
-few_wait x = omega (arith, length-waits x)
+few_wait x = omega (arith, length_waits x)

@@ -9,45 +9,22 @@ ghost use Rattle.wire_line.specs.Lengths.{few_wait};
 
 use crate::frames::{append, split_first};
 use crate::held::WireLine;
-use line::Line;
+use line::{LONGEST, Line, MOST};
 use queue::Queue;
-use refusal::{Layer, Reason, Refusal};
+use refusal::{Declined, Layer, Reason, Refusal};
+use wire::write::LONGEST_FRAME;
 
-// How many blocks wait at most.
-const MOST: usize = 16;
-
-// The longest block.
-const LONGEST: usize = 520;
-
-// What the frames of that many such blocks take up at most.
-const ROOM: usize = 16672;
-
-// Every refusal of a line is the line's own.
-fn refused(reason: Reason) -> Refusal
-    ensures { result ≡ refusal reason }
-{
-    Refusal {
-        reason,
-        layer: Layer::Line,
-    }
-}
-
-// Memory that sixteen frames may not fit in, handed back with the refusal.
-#[derive(Drop)]
-pub struct Short {
-    pub refusal: Refusal,
-    pub memory: Vec<u8>,
-}
+// What the frames of as many blocks as may wait take up at most.
+const ROOM: usize = MOST * LONGEST_FRAME;
 
 impl WireLine {
-    pub fn new(memory: Vec<u8>) -> Result<WireLine, Short>
-        ensures { MatchResult result (λ x. (16672 ≤ vec_len memory) × (waits x ≡ [])) (λ e. (vec_len memory < 16672) × (e.refusal ≡ refusal TooShort) × (e.memory ≡ memory)) }
+    // Memory that sixteen frames may not fit in is handed back with the refusal.
+    #[tactic(auto, unfolding(crate::specs::Frames::blocks, crate::specs::Frames::flat))]
+    pub fn new(memory: Vec<u8>) -> Result<WireLine, Declined<Vec<u8>>>
+        ensures { MatchResult result (λ x. (16672 ≤ vec_len memory) × (waits x ≡ [])) (λ e. (vec_len memory < 16672) × (e.refusal ≡ refusal TooShort) × (e.given ≡ memory)) }
     {
         if memory.len() < ROOM {
-            return Err(Short {
-                refusal: refused(Reason::TooShort),
-                memory,
-            });
+            return Err(Layer::Line.declines(Reason::TooShort, memory));
         }
         Ok(WireLine {
             bytes: Queue::new(memory),
@@ -55,8 +32,7 @@ impl WireLine {
         })
     }
 
-    // Copies the frames of what waits, as they are on the wire, to the front of `out`, as many bytes as fit, and answers
-    // how many.
+    // Copies the frames of what waits, as they are on the wire, to the front of `out`, as many bytes as fit: how many.
     pub fn copy_bytes(&self, out: &mut [u8]) -> usize
         ensures answer { result ≡ min (length (flat (waits self.now))) (length out.old) }
         ensures out { out.new ≡ copied (flat (waits self.now)) out.old }
@@ -70,36 +46,39 @@ impl Line for WireLine {
 
     ghost rule = { relies };
 
-    ghost held = { λ x. (x.long, x.few, x.whole, x.each) };
+    ghost held = { λ x. x.kept };
 
     ghost room = { few_wait };
 
-    ghost sizes = { λ x. x.each };
+    ghost sizes = { λ x. x.kept.each };
 
+    #[tactic(auto, using(crate::proofs::Kept::putting))]
     fn put(&mut self, block: &[u8]) -> Result<(), Refusal> {
         if block.is_empty() || block.len() > LONGEST {
-            return Err(refused(Reason::BlockLength));
+            return Err(Layer::Line.refuses(Reason::BlockLength));
         }
         if self.count >= MOST {
-            return Err(refused(Reason::LineFull));
+            return Err(Layer::Line.refuses(Reason::LineFull));
         }
         append(&mut self.bytes, block);
         self.count += 1;
         Ok(())
     }
 
+    #[tactic(auto, using(crate::proofs::Kept::taking))]
     fn take(&mut self, buf: &mut [u8]) -> Result<usize, Refusal> {
         if buf.len() < LONGEST {
-            return Err(refused(Reason::TooShort));
+            return Err(Layer::Line.refuses(Reason::TooShort));
         }
         if self.count == 0 {
-            return Err(refused(Reason::NothingWaits));
+            return Err(Layer::Line.refuses(Reason::NothingWaits));
         }
         let n = split_first(&mut self.bytes, buf);
         self.count -= 1;
         Ok(n)
     }
 
+    #[tactic(auto, using(crate::specs::Lengths::length_waits))]
     fn count(&self) -> usize {
         self.count
     }

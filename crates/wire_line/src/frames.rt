@@ -7,7 +7,7 @@ ghost use Rattle.wire_line.specs.Frames.{Begins};
 
 use queue::Queue;
 use wire::read::read;
-use wire::write::write;
+use wire::write::{LONGEST_FRAME, write};
 
 // Adds the frame of the block.
 pub(crate) fn append(bytes: &mut Queue<u8>, block: &[u8])
@@ -16,16 +16,13 @@ pub(crate) fn append(bytes: &mut Queue<u8>, block: &[u8])
     ensures after { contents bytes.new ≡ contents bytes.old ++ framed block.now }
     ensures capacity { capacity bytes.new ≡ capacity bytes.old }
 {
-    let mut frame = [0; 1042];
-    let Ok(n) = write(block, &mut frame) else {
-        unreachable()
-    };
-    let Ok(()) = bytes.extend(&frame[0..n]) else {
-        unreachable()
-    };
+    let mut frame = [0; LONGEST_FRAME];
+    let n = write(block, &mut frame).unwrap();
+    bytes.extend(&frame[..n]).unwrap();
 }
 
 // Moves the block of the first frame to the front of `buf`, and answers its length.
+#[tactic(auto, using(crate::proofs::Flat::drop_first))]
 pub(crate) fn split_first(bytes: &mut Queue<u8>, buf: &mut [u8]) -> usize
     requires begins { Begins (contents bytes.old) }
     requires room { 520 ≤ length buf.old }
@@ -34,11 +31,8 @@ pub(crate) fn split_first(bytes: &mut Queue<u8>, buf: &mut [u8]) -> usize
     ensures capacity { capacity bytes.new ≡ capacity bytes.old }
     ensures buffer { buf.new ≡ over (found (contents bytes.old)).block buf.old }
 {
-    let mut front = [0; 1042];
-    let seen = bytes.copy_oldest(&mut front);
-    let Ok((n, rest)) = read(&front[0..seen], buf) else {
-        unreachable()
-    };
-    bytes.drop_oldest(seen - rest.len());
+    let (n, rest) = read(bytes.as_slice(), buf).unwrap();
+    let seen = bytes.len() - rest.len();
+    bytes.drop_oldest(seen);
     n
 }
