@@ -17,10 +17,7 @@ impl End {
         ensures { (store : List ℕ) → result ≡ agreed_by (view self.now store) }
     {
         let seat = self.seat;
-        if seat.state.is_logged_in() {
-            return Some(seat.talk.offer);
-        }
-        None
+        seat.state.is_logged_in().then_some(seat.talk.offer)
     }
 
     pub fn outstanding(&self) -> usize

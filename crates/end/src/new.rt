@@ -1,29 +1,15 @@
 // Making an end.
 ghost use Rattle.std.specs.Prelude.{◌≡◌};
-ghost use Rattle.rules.specs.Ends.{in_limits, fresh};
+ghost use Rattle.rules.specs.Ends.{fresh};
 ghost use Rattle.end.specs.Making.{Makes};
 
 use crate::end::End;
-use crate::open::refused_by_end;
 use login::Parameters;
 use outstanding::Outstanding;
-use refusal::{Reason, Refusal};
+use refusal::{Failure, Layer, Reason};
+pub use rules::limits::limits_hold;
 use rules::seat::{Flow, Seat, Side, State, Talk};
-use std::alloc::{AllocError, Global};
-
-// Why an end was not made.
-#[derive(Clone, Copy)]
-pub enum Unmade {
-    Refused(Refusal),
-    OutOfMemory(AllocError),
-}
-
-// Whether an end can be made with these limits; a baud can't be above its range.
-pub fn limits_hold(limits: Parameters) -> bool
-    ensures { result ≡ in_limits limits }
-{
-    limits.offset <= 8 && 270 <= limits.payload && limits.payload <= 512 && 1 <= limits.baud
-}
+use std::alloc::Global;
 
 // What an end starts from: its offer is its limits.
 fn first_seat(side: Side, limits: Parameters) -> Seat
@@ -49,18 +35,15 @@ fn first_seat(side: Side, limits: Parameters) -> Seat
 
 impl End {
     // Only limits in range reach for memory.
-    pub fn new(heap: Global, side: Side, limits: Parameters) -> Result<End, Unmade>
+    pub fn new(heap: Global, side: Side, limits: Parameters) -> Result<End, Failure>
         ensures { Makes side limits result }
     {
         if !limits_hold(limits) {
-            return Err(Unmade::Refused(refused_by_end(Reason::LimitOutOfRange)));
+            return Err(Failure::Refused(Layer::End.refuses(Reason::LimitOutOfRange)));
         }
-        match Outstanding::new(heap) {
-            Ok(outstanding) => Ok(End {
-                seat: first_seat(side, limits),
-                outstanding,
-            }),
-            Err(e) => Err(Unmade::OutOfMemory(e)),
-        }
+        Ok(End {
+            seat: first_seat(side, limits),
+            outstanding: Outstanding::new(heap)?,
+        })
     }
 }

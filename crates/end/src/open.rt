@@ -1,6 +1,6 @@
 // Open: an end in Initial sends its first log-in.
 ghost use Rattle.std.specs.Prelude.{◌≡◌, length, OnErr};
-ghost use Rattle.rules.specs.Calls.{refusal, roomy, initial, opens};
+ghost use Rattle.rules.specs.Calls.{roomy, initial, opens};
 ghost use Rattle.end.specs.Views.{view, did};
 
 use crate::emit::emit_log_in;
@@ -11,16 +11,8 @@ use login::LogIn;
 use refusal::{Layer, Reason, Refusal};
 use rules::seat::{Latest, State, Talk};
 
-pub(crate) fn refused_by_end(reason: Reason) -> Refusal
-    ensures { result ≡ refusal reason }
-{
-    Refusal {
-        reason,
-        layer: Layer::End,
-    }
-}
-
-// Whether a call has the room that it asks for.
+// Whether a call has the room that it asks for, which a rule of the project has lent at each call. Poll and spoil ask
+// alone; the calls that build in the scratch, or read a whole store, take an array of it.
 pub(crate) fn has_room(store: &[u8], scratch: &[u8]) -> bool
     ensures { result ≡ roomy (length store.now) scratch.now }
 {
@@ -30,13 +22,12 @@ pub(crate) fn has_room(store: &[u8], scratch: &[u8]) -> bool
 fn is_initial(state: State) -> bool
     ensures { result ≡ initial state }
 {
-    match state {
-        State::Initial => true,
-        State::Login | State::LoggedIn | State::LoggedOut => false,
-    }
+    state == State::Initial
 }
 
+// Each call of an end says for itself what a refusal keeps, since a rule of the project pins each by its own contract.
 impl End {
+    #[tactic(auto, unfolding(rules::specs::Calls::opens))]
     pub fn open<B: Line, K: Check>(
         &mut self,
         store: &[u8],
@@ -46,26 +37,27 @@ impl End {
         ensures step { did result (view self.new store.now) (B.Line.waiting outgoing.new) scratch.new ≡ opens K.Check.code (view self.old store.now) (length store.now) (B.Line.waiting outgoing.old) scratch.old }
         ensures kept { OnErr result (self.new ≡ self.old) }
     {
-        if !has_room(store, scratch) {
-            return Err(refused_by_end(Reason::TooShort));
+        if store.len() < 4096 {
+            return Err(Layer::End.refuses(Reason::TooShort));
         }
+        let Some(buf) = scratch.first_chunk_mut::<520>() else {
+            return Err(Layer::End.refuses(Reason::TooShort));
+        };
         if !is_initial(self.seat.state) {
-            return Err(refused_by_end(Reason::NotInitial));
+            return Err(Layer::End.refuses(Reason::NotInitial));
         }
         let message = LogIn {
             accept: false,
             parameters: self.seat.talk.offer,
         };
         let latest = Latest { number: 1, message };
-        let took = emit_log_in::<B, K>(outgoing, self.seat.side, latest, scratch);
+        let took = emit_log_in::<B, K>(outgoing, self.seat.side, latest, buf);
         self.seat.talk = Talk {
-            offer: self.seat.talk.offer,
             latest: Some(latest),
             acked: false,
-            far: self.seat.talk.far,
+            ..self.seat.talk
         };
-        self.seat.state = State::Login;
-        self.seat.row = 0;
+        self.seat.go(State::Login);
         Ok(took)
     }
 }

@@ -6,66 +6,46 @@ ghost use Rattle.end.specs.Views.{view, did_receive, did_poll, takes_answer, tak
 
 use crate::emit::reply;
 use crate::end::End;
-use crate::open::{has_room, refused_by_end};
+use crate::open::has_room;
 use block::frame::Frame;
 use block::heading::Heading;
 use block::read::read;
 use block_check::Check;
 use line::Line;
-use refusal::{Reason, Refusal};
+use refusal::{Layer, Reason, Refusal};
 use rules::answer::{Handed, Heard, Polled, Tag};
 use rules::seat::State;
 
 fn is_logged_out(state: State) -> bool
     ensures { result ≡ logged_out state }
 {
-    match state {
-        State::LoggedOut => true,
-        State::Initial | State::Login | State::LoggedIn => false,
-    }
+    state == State::LoggedOut
 }
 
-fn handed_up(hand: bool, frame: Frame<'_>) -> Option<Handed>
-    ensures { result ≡ handed hand (content frame.entry) }
+// A record that is handed up, by its place in the scratch.
+fn handed_up(heard: Heard, frame: Frame<'_>) -> Option<Handed>
+    ensures { result ≡ handed heard (content frame.entry) }
 {
-    if !hand {
-        return None;
+    match heard {
+        Heard::Hand => Some(Handed {
+            tag: Tag::from(frame.heading),
+            place: 6,
+            size: frame.payload.len(),
+        }),
+        Heard::Quiet(_) | Heard::Answer(_) | Heard::Renew => None,
     }
-    let heading = frame.heading;
-    let tag = Tag {
-        origin: heading.origin,
-        protocol: heading.protocol,
-        kind: heading.kind,
-        exchange: heading.exchange,
-    };
-    Some(Handed {
-        tag,
-        place: 6,
-        size: frame.payload.len(),
-    })
 }
 
 impl End {
     // A block that was taken.
+    #[tactic(auto, unfolding(rules::specs::Calls::receives))]
     pub(crate) fn receive<B: Line, K: Check>(&mut self, block: &[u8], outgoing: &mut B) -> Polled
         ensures { (store : List ℕ) → did_receive result (view self.new store) (B.Line.waiting outgoing.new) ≡ receives K.Check.code (view self.old store) block.now (B.Line.waiting outgoing.old) }
     {
         match read::<K>(block) {
             Err(status) => {
-                let to = Heading {
-                    origin: 0,
-                    protocol: 0,
-                    kind: 0,
-                    number: 0,
-                    exchange: 0,
-                };
-                let heard = Heard {
-                    status: Some(status),
-                    renew: false,
-                    hand: false,
-                    cleared: 0,
-                };
-                let took = reply::<B, K>(outgoing, self.seat, to, heard);
+                let heard = Heard::Answer(status);
+                let took = reply::<B, K>(outgoing, self.seat, Heading::default(), heard);
                 Polled {
                     status: Some(status),
                     up: None,
@@ -75,12 +55,12 @@ impl End {
             }
             Ok(frame) => {
                 let heard = self.hear(frame);
-                let up = handed_up(heard.hand, frame);
+                let up = handed_up(heard, frame);
                 let took = reply::<B, K>(outgoing, self.seat, frame.heading, heard);
                 Polled {
-                    status: heard.status,
+                    status: heard.status(),
                     up,
-                    cleared: heard.cleared,
+                    cleared: heard.cleared(),
                     took,
                 }
             }
@@ -99,11 +79,12 @@ impl End {
         ensures bound { IfOk result (λ n. (1 ≤ n) × (n ≤ length scratch.new)) }
     {
         if is_logged_out(self.seat.state) {
-            return Err(refused_by_end(Reason::WrongState));
+            return Err(Layer::End.refuses(Reason::WrongState));
         }
         incoming.take(scratch)
     }
 
+    #[tactic(auto, unfolding(rules::specs::Calls::polls))]
     pub fn poll<A: Line, B: Line, K: Check>(
         &mut self,
         store: &[u8],
@@ -115,7 +96,7 @@ impl End {
         ensures kept { OnErr result (self.new ≡ self.old) }
     {
         if !has_room(store, scratch) {
-            return Err(refused_by_end(Reason::TooShort));
+            return Err(Layer::End.refuses(Reason::TooShort));
         }
         let n = self.take_block(incoming, scratch)?;
         Ok(self.receive::<B, K>(&scratch[0..n], outgoing))

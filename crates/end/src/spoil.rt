@@ -1,6 +1,6 @@
 // Spoil: a poll whose block had one byte changed on its way.
 ghost use Rattle.std.specs.Prelude.{◌≡◌, ◌≤◌, length, OnErr};
-ghost use Rattle.rules.specs.Links.{bench_refusal, spoiled, spoils};
+ghost use Rattle.rules.specs.Links.{spoiled, spoils};
 ghost use Rattle.end.specs.Views.{view, did_poll};
 
 use crate::end::End;
@@ -10,15 +10,6 @@ use line::Line;
 use refusal::{Layer, Reason, Refusal};
 use rules::answer::Polled;
 use rules::call::Change;
-
-fn refused_by_bench(reason: Reason) -> Refusal
-    ensures { result ≡ bench_refusal reason }
-{
-    Refusal {
-        reason,
-        layer: Layer::Bench,
-    }
-}
 
 // Changes one byte of a block of length `n` at the front of the scratch.
 fn spoil_block(scratch: &mut [u8], n: usize, change: Change)
@@ -31,6 +22,7 @@ fn spoil_block(scratch: &mut [u8], n: usize, change: Change)
 }
 
 impl End {
+    #[tactic(auto, unfolding(rules::specs::Links::spoils))]
     pub fn spoil<A: Line, B: Line, K: Check>(
         &mut self,
         change: Change,
@@ -43,10 +35,10 @@ impl End {
         ensures kept { OnErr result (self.new ≡ self.old) }
     {
         if !has_room(store, scratch) {
-            return Err(refused_by_bench(Reason::TooShort));
+            return Err(Layer::Bench.refuses(Reason::TooShort));
         }
         if change.addend == 0 {
-            return Err(refused_by_bench(Reason::SpoilByZero));
+            return Err(Layer::Bench.refuses(Reason::SpoilByZero));
         }
         let n = self.take_block(incoming, scratch)?;
         spoil_block(scratch, n, change);

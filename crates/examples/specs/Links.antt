@@ -15,7 +15,7 @@ use Rattle.rules.specs.declared.seat.Side.TheVariants.{Controller, Sled}
 use Rattle.rules.specs.declared.seat.State.TheVariants.{LoggedIn}
 use Rattle.rules.specs.declared.answer.Tag.{Tag}
 use Rattle.rules.specs.declared.answer.Polled.{Polled}
-use Rattle.rules.specs.Frames.{ack_frame}
+use Rattle.rules.specs.Frames.{ack_frame, cleared_by}
 use Rattle.rules.specs.Ends.{hears}
 use Rattle.rules.specs.Sending.{block}
 use Rattle.rules.specs.Calls.{numbered, polls}
@@ -87,8 +87,9 @@ pub record LinksHold : Type 0 where
   pub less : makes_link (with_payload 269) wide 4096 4096 [] [] ≡ Err (record { reason = LimitOutOfRange; layer = OfEnd })
   -- with 254, 255, 1 and 2 outstanding, an acknowledgement of 1 clears three
   pub cleared :
+      cleared_by
       (hears (record { seat = (ends wide narrow log_in).controller.end.seat; outstanding = map numbered_frame (254 ∷ 255 ∷ 1 ∷ 2 ∷ []) })
-      (ack_frame (numbered tag 1) Good)).heard.cleared ≡ 3
+      (ack_frame (numbered tag 1) Good)).heard ≡ 3
   -- with offset 4 and numbers 1 and 2 taken, 2 is a repeat and 255 is out of turn
   pub repeat : takes 2 (ends wide narrow (log_in ++ at Controller (send tag (65 ∷ [])) ∷ at Sled poll ∷ at Controller (send tag (65 ∷ [])) ∷ at Sled poll ∷ [])) (said Good)
   pub out_of_turn : takes 255 (ends wide narrow (log_in ++ at Controller (send tag (65 ∷ [])) ∷ at Sled poll ∷ at Controller (send tag (65 ∷ [])) ∷ at Sled poll ∷ [])) (said OutOfTurn)

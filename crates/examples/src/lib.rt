@@ -4,9 +4,7 @@
 ghost use Rattle.examples.specs.Examples.{Hold};
 ghost use Rattle.examples.specs.Links.{LinksHold};
 
-pub fn examples_hold() -> u8
+pub fn examples_hold()
     ensures blocks { Hold }
     ensures links { LinksHold }
-{
-    0
-}
+{}

@@ -18,6 +18,7 @@ use Rattle.rules.specs.declared.seat.Verdict.{Verdict}
 use Rattle.rules.specs.declared.seat.Verdict.TheVariants.{Only, Hand}
 use Rattle.rules.specs.declared.answer.Tag.{Tag}
 use Rattle.rules.specs.declared.answer.Sent.{Sent}
+use Rattle.rules.specs.Frames.{cleared_by}
 use Rattle.rules.specs.LogIns.{Told, smaller, same, differs, number_sent, negotiated, hears_log_in, log_in_in}
 use Rattle.rules.specs.Records.{one_more, clears, logged_in, judged}
 use Rattle.rules.specs.Ends.{End, Hearing, silent, hears_good_ack, hears_ack, tells, rules_on, hears}
@@ -39,11 +40,11 @@ clears_within n (f ∷ fs) =
 
 -- what an end hears: as many frames are outstanding before as it clears and as are outstanding after
 abbrev HeardBalance : End → Hearing → Type 0
-HeardBalance e x = length e.outstanding ≡ x.heard.cleared + length x.end.outstanding
+HeardBalance e x = length e.outstanding ≡ cleared_by x.heard + length x.end.outstanding
 
 -- a log-in clears nothing
 abbrev ClearsNone : Told → Type 0
-ClearsNone t = t.heard.cleared ≡ 0
+ClearsNone t = cleared_by t.heard ≡ 0
 
 negotiated_balance : (s : Seat) (got : LogIn) → ClearsNone (negotiated s got)
 unfolding negotiated
@@ -79,7 +80,7 @@ ack_balance e f =
     (λ _. cond_both (logged_in e.seat.state) _ _ (HeardBalance e) (λ _. less) (λ _. kept)))
     (λ _. kept)
 
-pub hears_balance : (e : End) (f : Content) → length e.outstanding ≡ (hears e f).heard.cleared + length (hears e f).end.outstanding
+pub hears_balance : (e : End) (f : Content) → length e.outstanding ≡ cleared_by (hears e f).heard + length (hears e f).end.outstanding
 unfolding hears
 hears_balance e f =
     let h = f.heading in

@@ -1,5 +1,5 @@
 -- Each call at an end keeps the invariant of the link.
-use Rattle.std.proofs.Common.{◌≡◌, ℕ, suc, ◌+◌, ◌<◌, Bool, true, false, eqb, ltb, leb, ◌⊎◌, List, [], ◌∷◌, ◌++◌, length, take, drop, Some, None, Ok, Option, Result, sym, refl, ap, ◌∙◌, subst, inl, inr, arith}
+use Rattle.std.proofs.Common.{◌≡◌, ℕ, suc, ◌+◌, ◌<◌, true, false, eqb, ltb, leb, ◌⊎◌, List, [], ◌∷◌, ◌++◌, length, take, drop, Some, None, Ok, Option, Result, sym, refl, ap, ◌∙◌, subst, inl, inr, arith}
 use Rattle.std.specs.List.{AllByRecursion}
 use Rattle.std.proofs.ByRecursion.{All-drop, All-push}
 use Rattle.std.proofs.lemmas.Bool.{ltb-true, lt-ltb, and_parts, cond_both, ne_eqb}
@@ -16,7 +16,9 @@ use Rattle.rules.specs.declared.seat.State.TheVariants.{Initial, Login, LoggedIn
 use Rattle.rules.specs.declared.seat.Latest.{Latest}
 use Rattle.rules.specs.declared.answer.Tag.{Tag}
 use Rattle.rules.specs.declared.answer.Sent.{Sent}
-use Rattle.rules.specs.Frames.{log_in_frame, latest_frames, replies}
+use Rattle.rules.specs.declared.answer.Heard.{Heard}
+use Rattle.rules.specs.declared.answer.Heard.TheVariants.{Quiet, Answer, Renew, Hand}
+use Rattle.rules.specs.Frames.{log_in_frame, latest_frames, cleared_by, replies}
 use Rattle.rules.specs.LogIns.{moved}
 use Rattle.rules.specs.Records.{logged_in}
 use Rattle.rules.specs.Ends.{End, with_row, hears}
@@ -66,9 +68,11 @@ Leads k m a b p f act r =
     Stands k m a b (place r.near (with_answer p act r.scratch r.answer)) (record { end = f.end; line = r.outgoing; past = f.past })
 
 -- what is heard of a record in the scratch is what the frame hands up
-handed_there : (k : Code) → Lawful k.width k.value → (g : Content) → Sized g → (hand : Bool) (scratch : List ℕ) → handed_by (handed hand g) (over (block k g) scratch) ≡ given hand g
-handed_there k law g s true scratch = ap (λ (l : List ℕ). record { tag = (recorded g).tag; payload = l } ∷ []) (payload_there k law g s scratch)
-handed_there k law g s false scratch = refl
+handed_there : (k : Code) → Lawful k.width k.value → (g : Content) → Sized g → (x : Heard) (scratch : List ℕ) → handed_by (handed x g) (over (block k g) scratch) ≡ given x g
+handed_there k law g s Hand scratch = ap (λ (l : List ℕ). record { tag = (recorded g).tag; payload = l } ∷ []) (payload_there k law g s scratch)
+handed_there k law g s (Quiet n) scratch = refl
+handed_there k law g s (Answer status) scratch = refl
+handed_there k law g s Renew scratch = refl
 
 -- a take from a line on which a block waits
 first_taken : (P : Result ℕ Refusal → List (List ℕ) → List ℕ → Type 0) (block : List ℕ) (later : List (List ℕ)) (scratch : List ℕ) → leb 520 (length scratch) ≡ true
@@ -207,8 +211,8 @@ module _ (k : Code) (law : Lawful k.width k.value) (m a b : Parameters) (n : Nod
     unfolding with_answer
     good_read scratch =
         let x = hears n.end g in
-        subst (λ up. Left k law m a b (place n p) f g gs outs bd v x.end (replies x.end.seat g.heading x.heard) up x.heard.cleared)
-        (sym (handed_there k law g v.in_clean.0.sized x.heard.hand scratch))
+        subst (λ up. Left k law m a b (place n p) f g gs outs bd v x.end (replies x.end.seat g.heading x.heard) up (cleared_by x.heard))
+        (sym (handed_there k law g v.in_clean.0.sized x.heard scratch))
         (hears_kept k law m a b (place n p) f g gs outs bd v)
 
     bad_read : (s : List ℕ) (r : Result Content Status) → Bad r → ReadAs s r

@@ -17,8 +17,10 @@ use Rattle.rules.specs.declared.seat.Latest.{Latest}
 use Rattle.rules.specs.declared.seat.Seat.{Seat}
 use Rattle.rules.specs.declared.seat.Verdict.{Verdict}
 use Rattle.rules.specs.declared.seat.Verdict.TheVariants.{Only, Hand}
-use Rattle.rules.specs.Frames.{ack_frame, no_heading, log_in_frame, replies}
-use Rattle.rules.specs.LogIns.{Told, answer, renewal, smaller, same, bad, good_of, log_in_in, settled, moved, with_talk, differs, number_sent, renewed, noted, negotiated, hears_log_in}
+use Rattle.rules.specs.declared.answer.Heard.{Heard}
+use Rattle.rules.specs.declared.answer.Heard.TheVariants.{Quiet, Answer, Renew, Hand as HandUp}
+use Rattle.rules.specs.Frames.{ack_frame, no_heading, log_in_frame, cleared_by, replies}
+use Rattle.rules.specs.LogIns.{Told, smaller, same, bad, good_of, log_in_in, settled, moved, with_talk, differs, number_sent, renewed, noted, negotiated, hears_log_in}
 use Rattle.rules.specs.Records.{repeats, clears, logged_in, judged}
 use Rattle.rules.specs.Ends.{End, Hearing, silent, acked, is_latest, clearing, hears_ack, tells, rules_on, hears}
 use Rattle.rules.specs.Sending.{blocks, puts as puts-blocks}
@@ -113,9 +115,11 @@ idle_confirms [] h = tt
 idle_confirms (q ∷ qs) h = (h.0.1, idle_confirms qs h.1)
 
 -- the record that a frame hands up, if it does
-abbrev pub given : Bool → Content → List Record
-given true f = recorded f ∷ []
-given false f = []
+abbrev pub given : Heard → Content → List Record
+given (Quiet n) f = []
+given (Answer status) f = []
+given Renew f = []
+given HandUp f = recorded f ∷ []
 
 module _ (k : Code) (law : Lawful k.width k.value) (m a b : Parameters) (n f : Place) (g : Content) (gs outs : List Content) (bd : Bounds m a b) (v : Inv k m a b n f (g ∷ gs) outs) where
   -- the link after n took g and did this
@@ -126,7 +130,7 @@ module _ (k : Code) (law : Lawful k.width k.value) (m a b : Parameters) (n f : P
       (far_with k f fs)
 
   abbrev pub Kept : Hearing → Type 0
-  Kept x = Left x.end (replies x.end.seat g.heading x.heard) (given x.heard.hand g) x.heard.cleared
+  Kept x = Left x.end (replies x.end.seat g.heading x.heard) (given x.heard g) (cleared_by x.heard)
 
   small : m.offset ≤ 8
   small = omega (arith, bd)
@@ -138,7 +142,7 @@ module _ (k : Code) (law : Lawful k.width k.value) (m a b : Parameters) (n f : P
       (rw (append-nil n.past.handed, er) (way_puts_back fs (idle_confirms fs idle) (way_rest_forward v.back))) v.here_records
 
   -- an answer that confirms no record, and none
-  answer_kept : (e : End) (status : Status) → sender e ≡ sender n.end → receiver e ≡ receiver n.end → SeatOk m a e.seat → confirms (ack_frame g.heading status) ≡ false → Kept (record { end = e; heard = answer status })
+  answer_kept : (e : End) (status : Status) → sender e ≡ sender n.end → receiver e ≡ receiver n.end → SeatOk m a e.seat → confirms (ack_frame g.heading status) ≡ false → Kept (record { end = e; heard = Answer status })
   unfolding replies
   answer_kept e status es er ok nc = quiet_left e (ack_frame g.heading status ∷ []) es er ok ((refl, nc), tt) (clean_ack g.heading status v.in_clean.0.sized.fits, tt)
 
@@ -210,14 +214,14 @@ module _ (k : Code) (law : Lawful k.width k.value) (m a b : Parameters) (n f : P
       (λ _. stay_kept)
 
   -- a log-in
-  seat_kept : (s : Seat) (status : Status) → s.flow ≡ n.end.seat.flow → SeatOk m a s → confirms (ack_frame g.heading status) ≡ false → Kept (tells n.end (record { seat = s; heard = answer status }))
+  seat_kept : (s : Seat) (status : Status) → s.flow ≡ n.end.seat.flow → SeatOk m a s → confirms (ack_frame g.heading status) ≡ false → Kept (tells n.end (record { seat = s; heard = Answer status }))
   seat_kept s status fl ok nc = answer_kept (record { seat = s; outstanding = n.end.outstanding }) status (rw fl refl) (rw fl refl) ok nc
 
   abbrev ToldKept : Told → Type 0
   ToldKept t = Kept (tells n.end t)
 
   renewed_kept : (o : Parameters) (accept far : Bool) → eqb g.heading.exchange 0 ≡ true → o ≡ m → Within m o a → leb 8 (number_sent n.end.seat.talk.latest) ≡ false →
-      ToldKept (record { seat = moved Login (with_talk (renewed n.end.seat.talk o accept far) n.end.seat); heard = renewal })
+      ToldKept (record { seat = moved Login (with_talk (renewed n.end.seat.talk o accept far) n.end.seat); heard = Renew })
   unfolding replies
   renewed_kept o accept far x agree in-o few =
       let s = n.end.seat in
@@ -281,7 +285,7 @@ module _ (k : Code) (law : Lawful k.width k.value) (m a b : Parameters) (n f : P
       (λ _. cond_both (eqb h.protocol 0 && eqb h.kind 1) _ _ Kept (λ t. log_in_kept n.end.seat.state t) (λ _. judged_kept))
 
   -- a block that isn't well-formed
-  pub bad_block_kept : (status : Status) → (code_of status ≡ 0 → ⊥) → Left n.end (replies n.end.seat no_heading (answer status)) [] 0
+  pub bad_block_kept : (status : Status) → (code_of status ≡ 0 → ⊥) → Left n.end (replies n.end.seat no_heading (Answer status)) [] 0
   unfolding replies
   bad_block_kept status ne =
       let nc : confirms (ack_frame no_heading status) ≡ false = rw (ne_eqb (code_of status) 0 ne) refl in

@@ -15,6 +15,7 @@ use Rattle.rules.specs.declared.seat.Seat.{Seat}
 use Rattle.rules.specs.declared.seat.Verdict.{Verdict}
 use Rattle.rules.specs.declared.seat.Verdict.TheVariants.{Only, Hand}
 use Rattle.rules.specs.declared.answer.Tag.{Tag}
+use Rattle.rules.specs.Frames.{sent_back, cleared_by}
 use Rattle.rules.specs.LogIns.{Told, accepted, settles, settled, moved, negotiated, repeated, hears_log_in, log_in_in, same, differs, number_sent, smaller}
 use Rattle.rules.specs.Records.{logged_in, repeats, judged}
 use Rattle.rules.specs.Ends.{End, Hearing, silent, is_latest, hears_good_ack, hears_ack, tells, rules_on, hears}
@@ -26,7 +27,7 @@ use Rattle.law.specs.ShutOut.{LogInsClearNothing, AheadGetsNoGood, LoggedInAckno
 pub log_ins_clear_nothing : LogInsClearNothing
 unfolding hears
 log_ins_clear_nothing e side l status =
-    cond_both (eqb (code_of status) 0) _ _ (λ (x : Hearing). (x.heard.cleared ≡ 0) × (x.end.outstanding ≡ e.outstanding)) (λ _. (refl, refl)) (λ _. (refl, refl))
+    cond_both (eqb (code_of status) 0) _ _ (λ (x : Hearing). (cleared_by x.heard ≡ 0) × (x.end.outstanding ≡ e.outstanding)) (λ _. (refl, refl)) (λ _. (refl, refl))
 
 -- a number ahead of turn is neither the expected one nor a repeat
 not_expected : (n x d : ℕ) → 1 ≤ x → x ≤ 255 → 1 ≤ d → d < 255 → n ≡ 1 + (x - 1 + d) % 255 → n ≡ x → ⊥
@@ -46,7 +47,7 @@ hears_record e f carried =
     cond-false _ _ _ (and_left (eqb h.protocol 0) (eqb h.kind 0) carried) ∙ cond-false _ _ _ (and_left (eqb h.protocol 0) (eqb h.kind 1) carried)
 
 abbrev NoGood : Hearing → Type 0
-NoGood x = x.heard.status ≡ Some Good → ⊥
+NoGood x = sent_back x.heard ≡ Some Good → ⊥
 
 pub ahead_gets_no_good : AheadGetsNoGood
 unfolding judged

@@ -7,7 +7,7 @@ use Rattle.block.specs.Reading.{Content}
 use Rattle.rules.specs.declared.seat.Side.{Side}
 use Rattle.rules.specs.declared.seat.State.TheVariants.{LoggedIn}
 use Rattle.rules.specs.declared.seat.Latest.{Latest}
-use Rattle.rules.specs.Frames.{ack_frame, log_in_frame}
+use Rattle.rules.specs.Frames.{ack_frame, log_in_frame, sent_back, cleared_by}
 use Rattle.rules.specs.LogIns.{accepted}
 use Rattle.rules.specs.Ends.{End, hears}
 use Rattle.rules.specs.Links.{Act, Node, acts}
@@ -16,7 +16,7 @@ use Rattle.rules.specs.Links.{Act, Node, acts}
 abbrev pub LogInsClearNothing : Type 0
 LogInsClearNothing =
     (e : End) (side : Side) (l : Latest) (status : Status) →
-    ((hears e (ack_frame (log_in_frame side l).heading status)).heard.cleared ≡ 0)
+    (cleared_by (hears e (ack_frame (log_in_frame side l).heading status)).heard ≡ 0)
     × ((hears e (ack_frame (log_in_frame side l).heading status)).end.outstanding ≡ e.outstanding)
 
 -- A record whose number is ahead of turn, by any distance that doesn't come round to a repeat, never gets 00h.
@@ -26,7 +26,7 @@ AheadGetsNoGood =
     1 ≤ f.heading.protocol → 1 ≤ e.seat.flow.expected → e.seat.flow.expected ≤ 255 →
     1 ≤ distance → distance + e.seat.flow.taken < 255 →
     f.heading.number ≡ 1 + (e.seat.flow.expected - 1 + distance) % 255 →
-    (hears e f).heard.status ≢ Some Good
+    sent_back (hears e f).heard ≢ Some Good
 
 -- An end that any call brings into Logged-In has sent Accept 1 in its latest log-in, which is acknowledged, and has
 -- noted the far accept.

@@ -5,27 +5,19 @@ ghost use Rattle.law.specs.Law.{RunsFaithful, CallsLeadOn};
 ghost use Rattle.law.specs.ShutOut.{LogInsClearNothing, AheadGetsNoGood, LoggedInAcknowledged};
 
 // For every lawful check, limits in range and list of calls on a fresh link: delivered in order, accounted for, agreed.
-pub fn runs_are_faithful() -> u8
+pub fn runs_are_faithful()
     ensures runs { RunsFaithful }
     ensures calls { CallsLeadOn }
-{
-    0
-}
+{}
 
-pub fn log_ins_clear_nothing() -> u8
+pub fn log_ins_clear_nothing()
     ensures { LogInsClearNothing }
-{
-    0
-}
+{}
 
-pub fn ahead_gets_no_good() -> u8
+pub fn ahead_gets_no_good()
     ensures { AheadGetsNoGood }
-{
-    0
-}
+{}
 
-pub fn logged_in_acknowledged() -> u8
+pub fn logged_in_acknowledged()
     ensures { LoggedInAcknowledged }
-{
-    0
-}
+{}

@@ -1,8 +1,9 @@
 -- Frames over the slots of a store: by place, one more, some fewer, and over a slot that is written.
-use Rattle.std.proofs.Common.{◌≡◌, ℕ, zero, suc, ◌+◌, ◌-◌, ◌*◌, ◌%◌, ◌<◌, ◌≤◌, min, ◌⊎◌, List, [], ◌∷◌, ◌++◌, length, take, drop, Some, None, sym, refl, ap, ◌∙◌, inl, inr, ⊎_elim, arith}
+use Rattle.std.proofs.Common.{◌≡◌, ℕ, zero, suc, ◌+◌, ◌-◌, ◌*◌, ◌%◌, ◌<◌, ◌≤◌, min, ◌⊎◌, List, [], ◌∷◌, ◌++◌, length, take, drop, Some, sym, refl, ap, ◌∙◌, inl, inr, ⊎_elim, arith}
 use borrow.Rule.Slice.PartMut.{put_mid}
-use Rattle.std.specs.List.{slice_get}
-use Rattle.std.proofs.lemmas.List.{drop-take, drop_all, length_push}
+use Rattle.std.specs.List.{slice_get, AllByRecursion}
+use Rattle.std.specs.Option.{option_map}
+use Rattle.std.proofs.lemmas.List.{drop-take, drop_all, length-drop, length-take, take-append-le, drop-append-le}
 use Rattle.std.proofs.lemmas.Slice.{take-put_mid_below, drop-put_mid, between-put_mid}
 use Rattle.std.proofs.lemmas.Bool.{cases_lt}
 use Rattle.queue.specs.Contents.{contents, push_after}
@@ -40,23 +41,12 @@ frames_push at (x ∷ es) e store =
     ap (λ fs. frame_at at x store ∷ fs) (frames_push (at + 1) es e store ∙ ap (λ a. frames_from (at + 1) es store ++ frame_at a e store ∷ []) z)
 
 -- a frame by its place
-pub nth_frames : (at k : ℕ) (es : List Entry) (e : Entry) (store : List ℕ) → Some e ≡ slice_get es k → slice_get (frames_from at es store) k ≡ Some (frame_at (at + k) e store)
-nth_frames at k [] e store h = absurd (let z : ◌≡◌ {A = ℕ} 0 1 = cc in omega arith)
-nth_frames at zero (x ∷ es) e store h =
-    let z : at ≡ at + 0 = omega arith in
-    let y : x ≡ e = cc in
-    ap (λ a. Some (frame_at a x store)) z ∙ ap (λ v. Some (frame_at (at + 0) v store)) y
-nth_frames at (suc k) (x ∷ es) e store h = let z : at + 1 + k ≡ at + suc k = omega arith in nth_frames (at + 1) k es e store h ∙ ap (λ a. Some (frame_at a e store)) z
-
-pub nth_inside : {X : Type 0} (xs : List X) (k : ℕ) (x : X) → Some x ≡ slice_get xs k → k < length xs
-nth_inside [] k x h = absurd (let z : ◌≡◌ {A = ℕ} 0 1 = cc in omega arith)
-nth_inside (y ∷ ys) zero x h = omega arith
-nth_inside (y ∷ ys) (suc k) x h = let i = nth_inside ys k x h in omega arith
-
-pub nth_outside : {X : Type 0} (xs : List X) (k : ℕ) → None ≡ slice_get xs k → length xs ≤ k
-nth_outside [] k h = omega arith
-nth_outside (y ∷ ys) zero h = absurd (let z : ◌≡◌ {A = ℕ} 0 1 = cc in omega arith)
-nth_outside (y ∷ ys) (suc k) h = let o = nth_outside ys k h in omega arith
+pub nth_frames : (at k : ℕ) (es : List Entry) (store : List ℕ) → slice_get (frames_from at es store) k ≡ option_map (λ e. frame_at (at + k) e store) (slice_get es k)
+nth_frames at k [] store = refl
+nth_frames at zero (e ∷ es) store = let z : at ≡ at + 0 = omega arith in ap (λ a. Some (frame_at a e store)) z
+nth_frames at (suc k) (e ∷ es) store =
+    let z : at + 1 + k ≡ at + suc k = omega arith in
+    nth_frames (at + 1) k es store ∙ ap (λ a. option_map (λ v. frame_at a v store) (slice_get es k)) z
 
 -- a part of the store that a write elsewhere leaves
 apart : (store part : List ℕ) (a k b n : ℕ) → (b + n ≤ a) ⊎ (a + k ≤ b) → a ≤ length store → length part ≡ k → take n (drop b (put_mid a k store part)) ≡ take n (drop b store)
@@ -90,9 +80,6 @@ module _ (es later : List Entry) (e : Entry) (size : ℕ) (few : length es < 8) 
   added : later ≡ es ++ e ∷ []
   added = l ∙ sym (extend_adds es (e ∷ []) size (omega arith))
 
-  pub length-added : length later ≤ 8
-  length-added = let a = ap length added in let p = length_push es e in omega arith
-
   -- and its payload written into the next slot
   pub frames_add : (at start count : ℕ) (store written part : List ℕ) → length part ≤ 512 → 4096 ≤ length store → e.size ≡ length part → start ≡ 512 * ((at + count) % 8) → count ≡ length es → written ≡ part → frames_from at later (put_mid start (start + length part - start) store written) ≡ frames_from at es store ++ record { heading = e.heading; payload = part } ∷ []
   frames_add at start count store written part short long z s n w =
@@ -120,3 +107,32 @@ frames_clear at n gone es later store g l =
     (λ h. ap (λ k. drop k fs) (omega arith))
     (λ h. drop_all gone fs (omega arith) ∙ sym (drop_all n fs (omega arith)))
     (cases_lt n (length es))
+
+-- A store's first eight slots show all.
+module _ (front rest : List ℕ) (long : 4096 ≤ length front) where
+  front_shows : (at : ℕ) (es : List Entry) → frames_from at es (front ++ rest) ≡ frames_from at es front
+  front_shows at [] = refl
+  front_shows at (e ∷ es) =
+      let a = 512 * (at % 8) in
+      let small = e.short in
+      let left : e.size ≤ length (drop a front) = omega (arith, length-drop a front) in
+      ap (λ p. record { heading = e.heading; payload = p } ∷ frames_from (at + 1) es (front ++ rest))
+      (ap (take e.size) (drop-append-le a front rest (omega arith)) ∙ take-append-le e.size (drop a front) rest left)
+      ∙ ap (λ fs. frame_at at e front ∷ fs) (front_shows (at + 1) es)
+
+  pub frames_front : (o : Outstanding) → frames o (front ++ rest) ≡ frames o front
+  unfolding frames
+  frames_front o = front_shows o.first (contents o.entries)
+
+short_from : (at : ℕ) (es : List Entry) (store : List ℕ) → AllByRecursion (λ f. length f.payload ≤ 512) (frames_from at es store)
+short_from at [] store = tt
+short_from at (e ∷ es) store =
+    let small = e.short in
+    (omega (arith, length-take e.size (drop (512 * (at % 8)) store)), short_from (at + 1) es store)
+
+pub frames_short : (o : Outstanding) (store : List ℕ) → AllByRecursion (λ f. length f.payload ≤ 512) (frames o store)
+unfolding frames
+frames_short o store = short_from o.first (contents o.entries) store
+
+-- for counts of what waits
+pub ruleset counts = (length-waiting, length-drop)

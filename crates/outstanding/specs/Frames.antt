@@ -1,9 +1,10 @@
 -- The outstanding frames, oldest first, as a store shows them.
-use Rattle.std.specs.Prelude.{ℕ, ◌+◌, ◌*◌, ◌%◌, Bool, ◌&&◌, List, [], ◌∷◌, take, drop, Some, None, Option, nat_le, nat_lt}
+use Rattle.std.specs.Prelude.{ℕ, ◌+◌, ◌*◌, ◌%◌, Bool, cond, ◌&&◌, List, [], ◌∷◌, take, drop, Some, None, Ok, Err, Option, Result, nat_le, nat_lt}
 use Rattle.block.specs.declared.frame.Frame.{Frame}
 use Rattle.block.specs.declared.heading.Heading.{Heading}
 use Rattle.block.specs.Form.{in_range}
 use Rattle.block.specs.Reading.{Content, content}
+use Rattle.queue.specs.declared.queue.Full.{Full}
 use Rattle.queue.specs.Contents.{contents}
 use Rattle.outstanding.specs.declared.entry.Entry.{Entry}
 use Rattle.outstanding.specs.declared.outstanding.Outstanding.{Outstanding}
@@ -28,3 +29,6 @@ shown None = None
 -- are outstanding
 abbrev pub may_push : Heading → ℕ → ℕ → ℕ → Bool
 may_push h size room count = in_range h && (nat_le size 512 && (nat_le 4096 room && nat_lt count 8))
+
+abbrev pub push_answer : Heading → ℕ → ℕ → ℕ → Result (Unit {0}) Full
+push_answer h size room count = cond (may_push h size room count) (Ok tt) (Err (record {}))

@@ -1,34 +1,31 @@
 // What is done with the outstanding frames, said of the frames as a store shows them.
-ghost use Rattle.std.specs.Prelude.{◌≡◌, ℕ, ◌+◌, ◌*◌, ◌%◌, ◌<◌, ◌≤◌, true, false, List, [], ◌∷◌, ◌++◌, length, drop, IfSome, IfOk, if◌then◌else◌, None, nat_le};
+ghost use Rattle.std.specs.Prelude.{◌≡◌, ℕ, ◌+◌, ◌*◌, ◌%◌, ◌<◌, ◌≤◌, List, [], ◌∷◌, ◌++◌, length, drop, IfOk, OnErr, if◌then◌else◌, None, ◌==◌, nat_le, position};
 ghost use Rattle.std.specs.List.{slice_get};
-ghost use Rattle.block.specs.Form.{in_range};
+ghost use Rattle.block.specs.Reading.{content};
+ghost use Rattle.queue.specs.Contents.{contents};
 ghost use Rattle.rules.specs.Records.{clears};
-ghost use Rattle.outstanding.specs.Frames.{frames, shown, may_push};
+ghost use Rattle.outstanding.specs.Frames.{frames, shown, may_push, push_answer};
 
 use crate::entry::Entry;
 use crate::outstanding::Outstanding;
 use block::frame::Frame;
 use block::heading::Heading;
-use queue::Queue;
+use queue::{Full, Queue};
 use std::alloc::{AllocError, Global};
 
-fn in_range(heading: Heading) -> bool
-    ensures { result ≡ in_range heading }
-{
-    heading.origin < 2 && heading.protocol < 8 && heading.kind < 16
-}
-
 impl Outstanding {
+    #[tactic(auto, unfolding(crate::specs::Frames::frames))]
     pub fn new(heap: Global) -> Result<Outstanding, AllocError>
         ensures { IfOk result (λ o. (store : List ℕ) → frames o store ≡ []) }
     {
-        let memory = vec![in heap; Entry::blank(); 8]?;
+        let memory = vec![in heap; Entry::default(); 8]?;
         Ok(Outstanding {
             entries: Queue::new(memory),
             first: 0,
         })
     }
 
+    #[tactic(auto, using(crate::proofs::Slots::counts))]
     pub fn len(&self) -> usize
         ensures value { (store : List ℕ) → result ≡ length (frames self.now store) }
         ensures bound { result ≤ 8 }
@@ -44,55 +41,59 @@ impl Outstanding {
         512 * ((self.first + k) % 8)
     }
 
-    // Whether a frame of this heading and size can be added, in a store of this length.
-    fn may_push(&self, heading: Heading, size: usize, room: usize) -> bool
-        ensures { (store : List ℕ) → result ≡ may_push heading size room (length (frames self.now store)) }
+    // Whether a frame can be added.
+    fn may_push(&self, heading: Heading, payload: &[u8], store: &[u8]) -> bool
+        ensures { result ≡ may_push heading (length payload.now) (length store.now) (length (frames self.now store.now)) }
     {
-        in_range(heading) && size <= 512 && room >= 4096 && self.len() < 8
+        heading.is_in_range() && payload.len() <= 512 && store.len() >= 4096 && self.len() < 8
     }
 
     // The payload goes into the slot behind the newest frame.
-    fn add(&mut self, heading: Heading, payload: &[u8], store: &mut [u8])
-        requires fields { in_range heading ≡ true }
-        requires short { length payload.now ≤ 512 }
+    #[tactic(auto, using(crate::proofs::Slots::counts), unfolding(crate::specs::Frames::frames))]
+    fn add(&mut self, frame: Frame<'_>, store: &mut [u8])
         requires long { 4096 ≤ length store.old }
         requires room { length (frames self.old store.old) < 8 }
-        ensures { frames self.new store.new ≡ frames self.old store.old ++ record { heading = heading; payload = payload.now } ∷ [] }
+        ensures { frames self.new store.new ≡ frames self.old store.old ++ content frame.entry ∷ [] }
     {
+        let Frame { heading, payload } = frame;
         let start = self.start(self.len());
         let size = payload.len();
         store[start..start + size].copy_from_slice(payload);
-        let _ = self.entries.push(Entry { heading, size });
+        self.entries.push(Entry { heading, size }).unwrap();
     }
 
-    // Adds a frame at the end, if it can be added, and answers whether it was.
-    pub fn push(&mut self, heading: Heading, payload: &[u8], store: &mut [u8]) -> bool
-        ensures answer { result ≡ may_push heading (length payload.now) (length store.old) (length (frames self.old store.old)) }
+    // Adds a frame at the end, if it can be added. Heading and payload come apart, since a `Frame` would ask of callers
+    // the range and the size that are tested here.
+    pub fn push(&mut self, heading: Heading, payload: &[u8], store: &mut [u8]) -> Result<(), Full>
+        ensures answer { result ≡ push_answer heading (length payload.now) (length store.old) (length (frames self.old store.old)) }
         ensures after { frames self.new store.new ≡ (if may_push heading (length payload.now) (length store.old) (length (frames self.old store.old)) then (frames self.old store.old ++ record { heading = heading; payload = payload.now } ∷ []) else frames self.old store.old) }
-        ensures kept { result ≡ false → (self.new ≡ self.old) × (store.new ≡ store.old) }
+        ensures kept { OnErr result ((self.new ≡ self.old) × (store.new ≡ store.old)) }
     {
-        if !self.may_push(heading, payload.len(), store.len()) {
-            return false;
+        if !self.may_push(heading, payload, store) {
+            return Err(Full);
         }
-        self.add(heading, payload, store);
-        true
+        self.add(Frame { heading, payload }, store);
+        Ok(())
+    }
+
+    // The place of the oldest frame of the number.
+    fn place(&self, number: u8) -> Option<usize>
+        ensures { result ≡ position (λ e. e.heading.number == number) (contents self.now.entries) }
+    {
+        let mut entries = self.entries.as_slice().iter();
+        entries.position(|entry| entry.heading.number == number)
     }
 
     // How many frames an acknowledgement of the number clears.
+    #[tactic(auto, using(crate::proofs::Finding::clears_place), unfolding(crate::specs::Frames::frames))]
     pub fn find(&self, number: u8) -> usize
         ensures { (store : List ℕ) → result ≡ clears number (frames self.now store) }
     {
-        for k in 0..self.len() {
-            if let Some(entry) = self.entries.get(k) {
-                if entry.heading.number == number {
-                    return k + 1;
-                }
-            }
-        }
-        0
+        self.place(number).map_or(0, |k| k + 1)
     }
 
     // Lets the `n` oldest go, or all where there are no more.
+    #[tactic(auto, using(crate::proofs::Slots::counts, crate::proofs::Slots::frames_clear), unfolding(crate::specs::Frames::frames))]
     pub fn clear(&mut self, n: usize)
         ensures { (store : List ℕ) → frames self.new store ≡ drop n (frames self.old store) }
     {
@@ -101,17 +102,15 @@ impl Outstanding {
         self.first = (self.first + gone) % 8;
     }
 
-    // The k-th oldest, from 0, as it is sent again: its payload is a part of the store, and a store too short shows none.
+    // The k-th oldest, from 0, as it is sent again: its payload is a part of the store. A store too short shows none.
+    #[tactic(auto, using(crate::proofs::Slots::nth_frames), unfolding(crate::specs::Frames::frames))]
     pub fn get<'a>(&self, k: usize, store: &'a [u8]) -> Option<Frame<'a>>
         ensures value { shown result ≡ (if nat_le 4096 (length store.now) then slice_get (frames self.now store.now) k else None) }
-        ensures fit { IfSome result (λ f. (in_range f.heading ≡ true) × (length f.payload.now ≤ 512)) }
     {
         if store.len() < 4096 {
             return None;
         }
-        let Some(entry) = self.entries.get(k) else {
-            return None;
-        };
+        let entry = self.entries.get(k)?;
         let start = self.start(k);
         Some(Frame {
             heading: entry.heading,
@@ -134,7 +133,7 @@ mod tests {
             number,
             exchange: 1,
         };
-        sent.push(heading, &[number], store)
+        sent.push(heading, &[number], store).is_ok()
     }
 
     #[test]

@@ -1,9 +1,11 @@
 ghost use Rattle.std.specs.Prelude.{◌≡◌, ◌≤◌, true};
 ghost use Rattle.block.specs.Form.{in_range};
+ghost use Rattle.rules.specs.Frames.{no_heading};
 
 use block::heading::Heading;
 
 // A frame without its payload, which stands in the store.
+// A size beside a slot, since a rule of the project lends the store as fixed memory at each call.
 #[derive(Clone, Copy)]
 pub struct Entry {
     pub(crate) heading: Heading,
@@ -12,20 +14,13 @@ pub struct Entry {
     ghost short: { size ≤ 512 },
 }
 
-impl Entry {
-    // What memory holds where no frame waits.
-    pub(crate) fn blank() -> Entry
-        ensures heading { result.heading ≡ record { origin = 0; protocol = 0; kind = 0; number = 0; exchange = 0 } }
-        ensures size { result.size ≡ 0 }
-    {
+// What memory holds where no frame waits. By hand, since nothing is derived beside ghost fields.
+impl Default for Entry {
+    ghost is_default = { λ e. (e.heading ≡ no_heading) × (e.size ≡ 0) };
+
+    fn default() -> Entry {
         Entry {
-            heading: Heading {
-                origin: 0,
-                protocol: 0,
-                kind: 0,
-                number: 0,
-                exchange: 0,
-            },
+            heading: Heading::default(),
             size: 0,
         }
     }

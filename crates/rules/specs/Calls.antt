@@ -17,9 +17,11 @@ use Rattle.rules.specs.declared.seat.Seat.{Seat}
 use Rattle.rules.specs.declared.answer.Tag.{Tag}
 use Rattle.rules.specs.declared.answer.Sent.{Sent}
 use Rattle.rules.specs.declared.answer.Handed.{Handed}
+use Rattle.rules.specs.declared.answer.Heard.{Heard}
+use Rattle.rules.specs.declared.answer.Heard.TheVariants.{Quiet, Answer, Renew, Hand}
 use Rattle.rules.specs.declared.answer.Polled.{Polled}
-use Rattle.rules.specs.Frames.{no_heading, log_in_frame, latest_frames, replies}
-use Rattle.rules.specs.LogIns.{answer, moved, with_talk}
+use Rattle.rules.specs.Frames.{no_heading, log_in_frame, latest_frames, sent_back, cleared_by, replies}
+use Rattle.rules.specs.LogIns.{moved, with_talk}
 use Rattle.rules.specs.Records.{after, logged_in}
 use Rattle.rules.specs.Ends.{End, Hearing, with_flow, with_row, hears}
 use Rattle.rules.specs.Sending.{blocks, puts, took, builds}
@@ -153,20 +155,22 @@ pub record Received : Type 0 where
 abbrev pub tag_of : Heading → Tag
 tag_of h = record { origin = h.origin; protocol = h.protocol; kind = h.kind; exchange = h.exchange }
 
-abbrev pub handed : Bool → Content → Option Handed
-handed true f = Some (record { tag = tag_of f.heading; place = 6; size = length f.payload })
-handed false f = None
+abbrev pub handed : Heard → Content → Option Handed
+handed (Quiet n) f = None
+handed (Answer status) f = None
+handed Renew f = None
+handed Hand f = Some (record { tag = tag_of f.heading; place = 6; size = length f.payload })
 
 abbrev pub replies_to : Code → Heading → Hearing → Option Handed → List (List ℕ) → Received
 replies_to k to x up line = record {
-  answer = record { status = x.heard.status; up = up; cleared = x.heard.cleared; took = took line (blocks k (replies x.end.seat to x.heard)) };
+  answer = record { status = sent_back x.heard; up = up; cleared = cleared_by x.heard; took = took line (blocks k (replies x.end.seat to x.heard)) };
   end = x.end;
   line = puts line (blocks k (replies x.end.seat to x.heard));
 }
 
 abbrev pub receives_as : Code → End → Result Content Status → List (List ℕ) → Received
-receives_as k e (Err status) line = replies_to k no_heading (record { end = e; heard = answer status }) None line
-receives_as k e (Ok f) line = replies_to k f.heading (hears e f) (handed (hears e f).heard.hand f) line
+receives_as k e (Err status) line = replies_to k no_heading (record { end = e; heard = Answer status }) None line
+receives_as k e (Ok f) line = replies_to k f.heading (hears e f) (handed (hears e f).heard f) line
 
 unfoldable pub receives : Code → End → List ℕ → List (List ℕ) → Received
 receives k e b line = receives_as k e (read_block k.width k.value b) line

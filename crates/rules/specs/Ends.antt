@@ -1,7 +1,6 @@
 -- An end, and what it makes of a block that was read.
 use Rattle.std.specs.Prelude.{ℕ, Bool, true, false, cond, ◌&&◌, List, [], length, drop, Some, None, Option, ◌==◌, nat_le, slice_index}
 use Rattle.block.specs.declared.heading.Heading.{Heading}
-use Rattle.block.specs.declared.status.Status.TheVariants.{Good}
 use Rattle.block.specs.Reading.{Content}
 use Rattle.login.specs.declared.Parameters.{Parameters}
 use Rattle.rules.specs.declared.seat.Side.{Side}
@@ -13,7 +12,8 @@ use Rattle.rules.specs.declared.seat.Seat.{Seat}
 use Rattle.rules.specs.declared.seat.Verdict.{Verdict}
 use Rattle.rules.specs.declared.seat.Verdict.TheVariants.{Only, Hand}
 use Rattle.rules.specs.declared.answer.Heard.{Heard}
-use Rattle.rules.specs.LogIns.{Told, answer, settled, with_talk, log_in_in, hears_log_in}
+use Rattle.rules.specs.declared.answer.Heard.TheVariants.{Quiet, Answer, Hand as HandUp}
+use Rattle.rules.specs.LogIns.{Told, settled, with_talk, log_in_in, hears_log_in}
 use Rattle.rules.specs.Records.{clears, judged, logged_in, took_one}
 
 pub record End : Type 0 where
@@ -49,11 +49,8 @@ pub record Hearing : Type 0 where
   pub end : End
   pub heard : Heard
 
-abbrev pub quiet : ℕ → Heard
-quiet cleared = record { status = None; renew = false; hand = false; cleared = cleared }
-
 abbrev pub silent : End → Hearing
-silent e = record { end = e; heard = quiet 0 }
+silent e = record { end = e; heard = Quiet 0 }
 
 -- An acknowledgement whose size isn't 1 or whose status isn't 00h does nothing. With Exchange ID 0 it acknowledges the
 -- latest log-in if the number is that one's.
@@ -72,7 +69,7 @@ acks_log_in s n = cond (is_latest s.talk.latest n) (settled (with_talk (acked s.
 abbrev pub clearing : End → ℕ → Hearing
 clearing e k = record {
   end = record { seat = with_row (cond (k == 0) e.seat.row 0) e.seat; outstanding = drop k e.outstanding };
-  heard = quiet k;
+  heard = Quiet k;
 }
 
 abbrev pub hears_good_ack : End → Heading → Hearing
@@ -87,10 +84,10 @@ abbrev pub tells : End → Told → Hearing
 tells e t = record { end = record { seat = t.seat; outstanding = e.outstanding }; heard = t.heard }
 
 abbrev pub rules_on : End → Verdict → Hearing
-rules_on e (Only status) = record { end = e; heard = answer status }
+rules_on e (Only status) = record { end = e; heard = Answer status }
 rules_on e Hand = record {
   end = record { seat = with_flow (took_one e.seat.talk.offer.offset e.seat.flow) e.seat; outstanding = e.outstanding };
-  heard = record { status = Some Good; renew = false; hand = true; cleared = 0 };
+  heard = HandUp;
 }
 
 unfoldable pub hears : End → Content → Hearing

@@ -1,7 +1,8 @@
 -- The frames that an end sends of its own.
-use Rattle.std.specs.Prelude.{ℕ, cond, List, [], ◌∷◌, ◌++◌, Some, None, Option}
+use Rattle.std.specs.Prelude.{ℕ, List, [], ◌∷◌, ◌++◌, Some, None, Option}
 use Rattle.block.specs.declared.heading.Heading.{Heading}
 use Rattle.block.specs.declared.status.Status.{Status}
+use Rattle.block.specs.declared.status.Status.TheVariants.{Good}
 use Rattle.block.specs.Reading.{Content}
 use Rattle.block.specs.Statuses.{code_of}
 use Rattle.login.specs.Form.{encoded}
@@ -10,6 +11,7 @@ use Rattle.rules.specs.declared.seat.Side.TheVariants.{Controller, Sled}
 use Rattle.rules.specs.declared.seat.Latest.{Latest}
 use Rattle.rules.specs.declared.seat.Seat.{Seat}
 use Rattle.rules.specs.declared.answer.Heard.{Heard}
+use Rattle.rules.specs.declared.answer.Heard.TheVariants.{Quiet, Answer, Renew, Hand}
 
 -- Origin is 0 if the controller began the exchange, 1 if the sled did
 abbrev pub origin_of : Side → ℕ
@@ -43,6 +45,27 @@ abbrev pub latest_frames : Side → Option Latest → List Content
 latest_frames side None = []
 latest_frames side (Some l) = log_in_frame side l ∷ []
 
+-- the status that goes back to a frame, if any: 00h to a log-in that is answered by a new one, and to a record that is
+-- handed up
+abbrev pub sent_back : Heard → Option Status
+sent_back (Quiet n) = None
+sent_back (Answer status) = Some status
+sent_back Renew = Some Good
+sent_back Hand = Some Good
+
+-- how many frames were cleared
+abbrev pub cleared_by : Heard → ℕ
+cleared_by (Quiet n) = n
+cleared_by (Answer status) = 0
+cleared_by Renew = 0
+cleared_by Hand = 0
+
+abbrev pub new_log_in : Seat → Heard → List Content
+new_log_in s (Quiet n) = []
+new_log_in s (Answer status) = []
+new_log_in s Renew = latest_frames s.side s.talk.latest
+new_log_in s Hand = []
+
 -- what goes out in answer to a frame: the acknowledgement, and then a new log-in
 unfoldable pub replies : Seat → Heading → Heard → List Content
-replies s to heard = acks to heard.status ++ cond heard.renew (latest_frames s.side s.talk.latest) []
+replies s to heard = acks to (sent_back heard) ++ new_log_in s heard

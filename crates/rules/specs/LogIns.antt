@@ -2,7 +2,6 @@
 use Rattle.std.specs.Prelude.{ℕ, ◌+◌, min, Bool, true, false, cond, not, ◌&&◌, ◌||◌, Some, None, Option, ◌==◌, nat_le, nat_lt}
 use Rattle.std.specs.Bool.{beq}
 use Rattle.block.specs.declared.heading.Heading.{Heading}
-use Rattle.block.specs.declared.status.Status.{Status}
 use Rattle.block.specs.declared.status.Status.TheVariants.{Good, BadLogIn}
 use Rattle.block.specs.Reading.{Content}
 use Rattle.login.specs.declared.Parameters.{Parameters}
@@ -14,6 +13,7 @@ use Rattle.rules.specs.declared.seat.Latest.{Latest}
 use Rattle.rules.specs.declared.seat.Talk.{Talk}
 use Rattle.rules.specs.declared.seat.Seat.{Seat}
 use Rattle.rules.specs.declared.answer.Heard.{Heard}
+use Rattle.rules.specs.declared.answer.Heard.TheVariants.{Answer, Renew}
 
 -- in each parameter the smaller one
 abbrev pub smaller : Parameters → Parameters → Parameters
@@ -71,12 +71,6 @@ pub record Told : Type 0 where
   pub seat : Seat
   pub heard : Heard
 
-abbrev pub answer : Status → Heard
-answer status = record { status = Some status; renew = false; hand = false; cleared = 0 }
-
-abbrev pub renewal : Heard
-renewal = record { status = Some Good; renew = true; hand = false; cleared = 0 }
-
 -- a log-in with the next number
 abbrev pub renewed : Talk → Parameters → Bool → Bool → Talk
 renewed t offer accept far = record {
@@ -93,9 +87,9 @@ noted t offer far = record { offer = offer; latest = t.latest; acked = t.acked; 
 abbrev pub negotiated_with : Seat → Parameters → Bool → Bool → Told
 negotiated_with s offer accept far =
     cond (differs s.talk.latest accept offer)
-    (cond (nat_le 8 (number_sent s.talk.latest)) (record { seat = moved LoggedOut s; heard = answer BadLogIn })
-    (record { seat = moved Login (with_talk (renewed s.talk offer accept far) s); heard = renewal }))
-    (record { seat = settled (with_talk (noted s.talk offer far) s); heard = answer Good })
+    (cond (nat_le 8 (number_sent s.talk.latest)) (record { seat = moved LoggedOut s; heard = Answer BadLogIn })
+    (record { seat = moved Login (with_talk (renewed s.talk offer accept far) s); heard = Renew }))
+    (record { seat = settled (with_talk (noted s.talk offer far) s); heard = Answer Good })
 
 -- A good log-in in Initial or Login. Each parameter of the offer becomes the smaller of itself and the received one;
 -- Accept is 1 exactly when the offer now equals what was received; the far accept is noted if the received Accept is 1
@@ -110,12 +104,12 @@ negotiated s got =
 -- it Logged-Out. A bad one gets 41h in every state and changes nothing. (A Logged-Out end hears nothing.)
 abbrev pub repeated : Seat → LogIn → Told
 repeated s got =
-    cond (got.accept && same got.parameters s.talk.offer) (record { seat = s; heard = answer Good })
-    (record { seat = moved LoggedOut s; heard = answer BadLogIn })
+    cond (got.accept && same got.parameters s.talk.offer) (record { seat = s; heard = Answer Good })
+    (record { seat = moved LoggedOut s; heard = Answer BadLogIn })
 
 abbrev pub hears_log_in : State → Option LogIn → Seat → Told
-hears_log_in state None s = record { seat = s; heard = answer BadLogIn }
+hears_log_in state None s = record { seat = s; heard = Answer BadLogIn }
 hears_log_in Initial (Some got) s = negotiated s got
 hears_log_in Login (Some got) s = negotiated s got
 hears_log_in LoggedIn (Some got) s = repeated s got
-hears_log_in LoggedOut (Some got) s = record { seat = s; heard = answer BadLogIn }
+hears_log_in LoggedOut (Some got) s = record { seat = s; heard = Answer BadLogIn }

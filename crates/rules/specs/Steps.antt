@@ -1,5 +1,5 @@
 -- Calls and answers as values of the code, and what they stand for.
-use Rattle.std.specs.Prelude.{ℕ, List, [], take, drop, Ok, Err, Result}
+use Rattle.std.specs.Prelude.{ℕ, List, [], take, drop, Some, None, Ok, Err, Option, Result}
 use Rattle.refusal.specs.declared.Refusal.{Refusal}
 use Rattle.refusal.specs.Numbers.{number_of}
 use Rattle.rules.specs.declared.call.Part.{Part}
@@ -36,6 +36,23 @@ answer_of (Sent r) = sent r
 answer_of (Polled r) = polled r
 answer_of (TimedOut r) = timed_out r
 answer_of (Lost r) = lost r
+
+-- why a call was refused, if it was
+abbrev pub why_not : {R : Type 0} → Result R Refusal → Option Refusal
+why_not (Ok r) = None
+why_not (Err why) = Some why
+
+abbrev pub why_refused : Answered → Option Refusal
+why_refused (Opened r) = why_not r
+why_refused (Sent r) = why_not r
+why_refused (Polled r) = why_not r
+why_refused (TimedOut r) = why_not r
+why_refused (Lost r) = why_not r
+
+-- the number of a refusal, and 0 where there is none
+abbrev pub number_of_why : Option Refusal → ℕ
+number_of_why None = 0
+number_of_why (Some why) = number_of why.reason
 
 -- the number of a refusal, or 0
 abbrev pub number_or_0 : {R : Type 0} → Result R Refusal → ℕ

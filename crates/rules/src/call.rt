@@ -1,6 +1,6 @@
 // A call of the link as a value, so that whole lists of calls can be handed over.
 ghost use Rattle.std.specs.Prelude.{◌≡◌, length};
-ghost use Rattle.rules.specs.Steps.{number_or_0, part_of, payload_of};
+ghost use Rattle.rules.specs.Steps.{why_refused, number_of_why, refusal_of, part_of, payload_of};
 
 use crate::answer::{Polled, Sent, Tag};
 use crate::seat::Side;
@@ -47,26 +47,16 @@ pub enum Answer {
     Lose(Result<usize, Refusal>),
 }
 
-fn refused<T: Copy>(answer: Result<T, Refusal>) -> u8
-    ensures { result ≡ number_or_0 answer }
-{
-    match answer {
-        Ok(_) => 0,
-        Err(why) => why.number(),
-    }
-}
-
 impl Answer {
-    // The number of the refusal, or 0.
-    pub fn refusal(self) -> u8
-        ensures { result ≡ Rattle.rules.specs.Steps.refusal_of self }
+    // Why the call was refused, if it was.
+    pub fn refusal(self) -> Option<Refusal>
+        ensures why { result ≡ why_refused self }
+        ensures number { number_of_why result ≡ refusal_of self }
     {
         match self {
-            Answer::Open(r) => refused(r),
-            Answer::Send(r) => refused(r),
-            Answer::Poll(r) => refused(r),
-            Answer::Timeout(r) => refused(r),
-            Answer::Lose(r) => refused(r),
+            Answer::Open(r) | Answer::Timeout(r) | Answer::Lose(r) => r.err(),
+            Answer::Send(r) => r.err(),
+            Answer::Poll(r) => r.err(),
         }
     }
 }
@@ -76,9 +66,8 @@ impl Part {
     pub fn of<'a>(self, bytes: &'a [u8]) -> &'a [u8]
         ensures { result.now ≡ part_of bytes.now self }
     {
-        let start = self.place.min(bytes.len());
-        let size = self.size.min(bytes.len() - start);
-        &bytes[start..start + size]
+        let rest = &bytes[self.place.min(bytes.len())..];
+        &rest[..self.size.min(rest.len())]
     }
 }
 

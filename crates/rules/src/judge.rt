@@ -10,14 +10,12 @@ impl State {
     pub fn is_logged_in(self) -> bool
         ensures { result ≡ logged_in self }
     {
-        match self {
-            State::LoggedIn => true,
-            State::Initial | State::Login | State::LoggedOut => false,
-        }
+        self == State::LoggedIn
     }
 }
 
 // Numbers go from 1 to 255 and round again.
+#[tactic(auto, unfolding(crate::specs::Records::after))]
 pub fn next_number(n: u8) -> u8
     ensures { result ≡ after n }
 {
@@ -25,6 +23,7 @@ pub fn next_number(n: u8) -> u8
 }
 
 impl Flow {
+    #[tactic(auto, unfolding(crate::specs::Records::repeats))]
     fn is_repeat(self, n: u8) -> bool
         ensures { result ≡ repeats n self.expected self.taken }
     {
@@ -43,6 +42,7 @@ impl Flow {
 
 impl Seat {
     // By protocol, type, size and number, one status a case; of the payload its size alone matters.
+    // Bare numbers, since a rule of the project has this decision made over ranges with guards.
     #[tactic(auto, unfolding(crate::specs::Records::judged))]
     pub fn judge(self, heading: Heading, size: usize) -> Verdict
         ensures { (payload : List ℕ) → length payload ≡ size → result ≡ judged self (record { heading = heading; payload = payload }) }

@@ -6,5 +6,6 @@
 pub mod answer;
 pub mod call;
 pub mod judge;
+pub mod limits;
 pub mod login_machine;
 pub mod seat;

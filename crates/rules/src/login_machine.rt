@@ -1,6 +1,6 @@
 // How an end logs in.
 ghost use Rattle.std.specs.Prelude.{◌≡◌, ◌≤◌};
-ghost use Rattle.rules.specs.LogIns.{smaller, same, good_of, differs, number_sent, settled, negotiated, hears_log_in};
+ghost use Rattle.rules.specs.LogIns.{smaller, good_of, differs, number_sent, settled, negotiated, hears_log_in};
 
 use crate::answer::Heard;
 use crate::seat::{Latest, Seat, State, Talk};
@@ -21,62 +21,38 @@ fn smaller_of(a: Parameters, b: Parameters) -> Parameters
     }
 }
 
-fn agree(a: Parameters, b: Parameters) -> bool
-    ensures { result ≡ same a b }
-{
-    a.offset == b.offset && a.payload == b.payload && a.baud == b.baud
-}
-
 // The log-in under a heading, none where it is bad.
 pub fn good(heading: Heading, log_in: Option<LogIn>) -> Option<LogIn>
     ensures { result ≡ good_of heading log_in }
 {
-    let Some(l) = log_in else {
-        return None;
-    };
-    if heading.number == 0
-        || l.parameters.baud == 0
-        || heading.exchange != 0
-        || l.parameters.payload < 270
-    {
-        return None;
-    }
-    Some(l)
+    log_in.filter(|l| {
+        heading.number != 0
+            && l.parameters.baud != 0
+            && heading.exchange == 0
+            && l.parameters.payload >= 270
+    })
 }
 
 // Whether a log-in says something else than the last one sent.
 fn says_more(latest: Option<Latest>, accept: bool, offer: Parameters) -> bool
     ensures { result ≡ differs latest accept offer }
 {
-    match latest {
-        None => true,
-        Some(l) => !agree(l.message.parameters, offer) || l.message.accept != accept,
-    }
+    let message = LogIn {
+        accept,
+        parameters: offer,
+    };
+    latest.is_none_or(|l| l.message != message)
 }
 
 fn sent_number(latest: Option<Latest>) -> u8
     ensures { result ≡ number_sent latest }
 {
-    match latest {
-        None => 0,
-        Some(l) => l.number,
-    }
-}
-
-fn answering(status: Status) -> Heard
-    ensures { result ≡ Rattle.rules.specs.LogIns.answer status }
-{
-    Heard {
-        status: Some(status),
-        renew: false,
-        hand: false,
-        cleared: 0,
-    }
+    latest.map_or(0, |l| l.number)
 }
 
 impl Seat {
     // Another state ends the row of timeouts.
-    fn go(&mut self, state: State)
+    pub fn go(&mut self, state: State)
         ensures { self.new ≡ Rattle.rules.specs.LogIns.moved state self.old }
     {
         self.state = state;
@@ -84,6 +60,7 @@ impl Seat {
     }
 
     // Logged in, once its own accept is acknowledged and the other's is noted.
+    // `less` is a clause, here and below: as an invariant of the public `Talk` it would be asked of whoever makes one.
     pub fn settle(&mut self)
         ensures after { self.new ≡ settled self.old }
         ensures less { self.new.talk.offer.offset ≤ self.old.talk.offer.offset }
@@ -96,24 +73,25 @@ impl Seat {
     }
 
     // A good log-in in Initial or Login.
+    #[tactic(auto, unfolding(crate::specs::LogIns::negotiated))]
     fn negotiate(&mut self, got: LogIn) -> Heard
         ensures after { self.new ≡ (negotiated self.old got).seat }
         ensures answer { result ≡ (negotiated self.old got).heard }
         ensures less { self.new.talk.offer.offset ≤ self.old.talk.offer.offset }
     {
         let offer = smaller_of(self.talk.offer, got.parameters);
-        let accept = agree(offer, got.parameters);
+        let accept = offer == got.parameters;
         let far = got.accept && accept;
         if !says_more(self.talk.latest, accept, offer) {
             self.talk.offer = offer;
             self.talk.far = far;
             self.settle();
-            return answering(Status::Good);
+            return Heard::Answer(Status::Good);
         }
         let number = sent_number(self.talk.latest);
         if number >= LOG_INS {
             self.go(State::LoggedOut);
-            return answering(Status::BadLogIn);
+            return Heard::Answer(Status::BadLogIn);
         }
         let latest = Latest {
             number: number + 1,
@@ -129,12 +107,7 @@ impl Seat {
             far,
         };
         self.go(State::Login);
-        Heard {
-            status: Some(Status::Good),
-            renew: true,
-            hand: false,
-            cleared: 0,
-        }
+        Heard::Renew
     }
 
     // A log-in was received, none standing for a bad one: own state and received frame decide together.
@@ -144,15 +117,15 @@ impl Seat {
         ensures less { self.new.talk.offer.offset ≤ self.old.talk.offer.offset }
     {
         match (self.state, got) {
-            (_, None) => answering(Status::BadLogIn),
+            (_, None) => Heard::Answer(Status::BadLogIn),
             (State::Initial | State::Login, Some(l)) => self.negotiate(l),
-            (State::LoggedIn, Some(l)) if l.accept && agree(l.parameters, self.talk.offer) =>
-                answering(Status::Good),
+            (State::LoggedIn, Some(l)) if l.accept && l.parameters == self.talk.offer =>
+                Heard::Answer(Status::Good),
             (State::LoggedIn, Some(_)) => {
                 self.go(State::LoggedOut);
-                answering(Status::BadLogIn)
+                Heard::Answer(Status::BadLogIn)
             }
-            (State::LoggedOut, Some(_)) => answering(Status::BadLogIn),
+            (State::LoggedOut, Some(_)) => Heard::Answer(Status::BadLogIn),
         }
     }
 }

@@ -1,14 +1,17 @@
 // What an end remembers beside its outstanding frames.
+ghost use Rattle.std.specs.Prelude.{◌≡◌};
+ghost use Rattle.rules.specs.Frames.{origin_of};
+
 use block::status::Status;
 use login::{LogIn, Parameters};
 
-#[derive(Clone, Copy)]
+#[derive(Clone, Copy, PartialEq, Eq, Debug)]
 pub enum Side {
     Controller,
     Sled,
 }
 
-#[derive(Clone, Copy)]
+#[derive(Clone, Copy, PartialEq, Eq, Debug)]
 pub enum State {
     Initial,
     Login,
@@ -25,6 +28,7 @@ pub struct Latest {
 
 // The log-in part: the offer, which is agreed once the end is logged in, the latest log-in sent, whether that is
 // acknowledged, and whether the far accept is noted.
+// Two flags, since each is set and cleared without the other: an enum of the four cases would be no plainer.
 #[derive(Clone, Copy)]
 pub struct Talk {
     pub offer: Parameters,
@@ -57,4 +61,16 @@ pub struct Seat {
 pub enum Verdict {
     Only(Status),
     Hand,
+}
+
+impl Side {
+    // Origin in the headings of an end's own frames.
+    pub fn origin(self) -> u8
+        ensures { result ≡ origin_of self }
+    {
+        match self {
+            Side::Controller => 0,
+            Side::Sled => 1,
+        }
+    }
 }

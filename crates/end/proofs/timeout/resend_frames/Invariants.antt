@@ -1,13 +1,13 @@
-use Rattle.std.proofs.Common.{◌≡◌, ◌+◌, ◌≤◌, length, drop}
+use Rattle.std.proofs.Common.{◌≡◌, ◌≤◌, take}
 use Rattle.outstanding.specs.Frames.{frames}
 use Rattle.rules.specs.Sending.{blocks, puts, took, builds}
 use Rattle.end.proofs.timeout.resend_frames.Given as goal
 
--- what is left to send from here comes to what all of it comes to from the start
+-- what the first k frames come to
 abbrev pub invariant-loop-k : goal.invariant-loop-k
-invariant-loop-k g l =
-    (l.taken + took (g.B.Line.waiting l.outgoing) (blocks g.K.Check.code (drop l.k (frames l.outstanding l.store))) ≡ took (g.B.Line.waiting l.initial.outgoing) (blocks g.K.Check.code (frames l.outstanding l.store)))
-    × (puts (g.B.Line.waiting l.outgoing) (blocks g.K.Check.code (drop l.k (frames l.outstanding l.store))) ≡ puts (g.B.Line.waiting l.initial.outgoing) (blocks g.K.Check.code (frames l.outstanding l.store)))
-    × (builds l.scratch (blocks g.K.Check.code (drop l.k (frames l.outstanding l.store))) ≡ builds l.initial.scratch (blocks g.K.Check.code (frames l.outstanding l.store)))
-    × (l.taken ≤ l.k)
-    × (length l.scratch ≡ length l.initial.scratch)
+invariant-loop-k g l = record {
+  answer : l.taken ≡ took (g.B.Line.waiting l.initial.outgoing) (blocks g.K.Check.code (take l.k (frames l.outstanding l.store)));
+  line : g.B.Line.waiting l.outgoing ≡ puts (g.B.Line.waiting l.initial.outgoing) (blocks g.K.Check.code (take l.k (frames l.outstanding l.store)));
+  buffer : l.buf ≡ builds l.initial.buf (blocks g.K.Check.code (take l.k (frames l.outstanding l.store)));
+  few : l.taken ≤ l.k;
+}
