@@ -1,4 +1,5 @@
 // What an end puts on a wire line, read as a capture is.
+use crate::stage::wires;
 use checks::sum::SumCheck;
 use end::end::End;
 use login::Parameters;
@@ -16,12 +17,8 @@ fn a_log_in_and_its_resend(rt: HostRuntime) -> Result<(), Fail> {
         payload: 512,
         baud: 96,
     };
-    let Ok(mut end) = End::new(rt.alloc(), Side::Controller, limits) else {
-        return Err(Fail::new("no end"));
-    };
-    let Ok(mut line) = WireLine::new(vec![in rt.alloc(); 0; 16672]?) else {
-        return Err(Fail::new("no line"));
-    };
+    let mut end = End::new(rt.alloc(), Side::Controller, limits)?;
+    let mut line = wires(rt.alloc())?;
     let store = vec![in rt.alloc(); 0; 4096]?;
     let mut scratch = [0; 520];
     assert_eq!(rt;

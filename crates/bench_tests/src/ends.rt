@@ -4,7 +4,9 @@ use checks::sum::SumCheck;
 use end::end::End;
 use line::Line;
 use login::Parameters;
+use refusal::Refusal;
 use row_line::RowLine;
+use rules::answer::Polled;
 use rules::seat::{Side, State};
 use std::alloc::Global;
 use std::process::Abort;
@@ -18,7 +20,19 @@ struct Stand<A: Line, B: Line> {
     outgoing: B,
 }
 
-// Stands for no answer where a status is expected.
+impl<A: Line, B: Line> Stand<A, B> {
+    fn poll(&mut self) -> Result<Polled, Refusal> {
+        self.end.poll::<A, B, SumCheck>(
+            self.store.as_slice(),
+            &mut self.incoming,
+            &mut self.outgoing,
+            &mut [0; 520],
+        )
+    }
+}
+
+// Stands for no answer where a status is expected. An `Option` would be no plainer: the tables stay bytes, as they were
+// worked out by hand.
 const SILENCE: u8 = 0xff;
 
 // A sled's end in Initial, with the limits 4, 300 and 96.
@@ -28,11 +42,8 @@ fn sled(heap: Global) -> Result<Stand<RowLine, RowLine>, Fail> {
         payload: 300,
         baud: 96,
     };
-    let Ok(end) = End::new(heap, Side::Sled, limits) else {
-        return Err(Fail::new("no end"));
-    };
     Ok(Stand {
-        end,
+        end: End::new(heap, Side::Sled, limits)?,
         store: vec![in heap; 0; 4096]?,
         incoming: rows(heap)?,
         outgoing: rows(heap)?,
@@ -59,37 +70,16 @@ fn hears<A: Line, B: Line>(
     status: u8,
     handed: bool,
 ) -> Result<(), Fail> {
-    let mut buf = [0; 520];
     stand.incoming.put(block)?;
-    let polled = stand.end.poll::<A, B, SumCheck>(
-        stand.store.as_slice(),
-        &mut stand.incoming,
-        &mut stand.outgoing,
-        &mut buf,
-    )?;
+    let polled = stand.poll()?;
     assert_eq!(rt; polled.up.is_some(), handed);
-    match polled.status {
-        Some(sent) => assert_eq!(rt; sent.code(), status),
-        None => assert_eq!(rt; SILENCE, status),
-    }
+    assert_eq!(rt; polled.status.map_or(SILENCE, |sent| sent.code()), status);
     answered(rt, &mut stand.outgoing, status)
 }
 
 fn is_logged_out<A: Line, B: Line>(rt: &impl Abort, stand: &mut Stand<A, B>) -> Result<(), Fail> {
-    let mut buf = [0; 520];
-    let polled = stand.end.poll::<A, B, SumCheck>(
-        stand.store.as_slice(),
-        &mut stand.incoming,
-        &mut stand.outgoing,
-        &mut buf,
-    );
-    match polled {
-        Ok(_) => Err(Fail::new("polled in Logged-Out")),
-        Err(why) => {
-            assert_eq!(rt; why.number(), 12);
-            Ok(())
-        },
-    }
+    assert_eq!(rt; stand.poll().err().map(|why| why.number()), Some(12));
+    Ok(())
 }
 
 // A log-in with the agreed parameters and Accept 1, and the acknowledgement of the sled's own.

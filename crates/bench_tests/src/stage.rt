@@ -4,8 +4,9 @@ use checks::long::LongCheck;
 use checks::sum::SumCheck;
 use counted::Counted;
 use line::Line;
-use rehearsal::rehearse::{Halted, rehearse};
-use rehearsal::row::Row;
+use refusal::Failure;
+use rehearsal::rehearse::rehearse;
+use rehearsal::row::Rows;
 use row_line::RowLine;
 use std::alloc::{AllocError, Global};
 use std::fmt::Write;
@@ -13,18 +14,13 @@ use std::process::Abort;
 use std::test::Fail;
 use wire_line::WireLine;
 
+// As the tests of lines make lines too: a crate for these two makers would be no plainer.
 pub(crate) fn rows(heap: Global) -> Result<RowLine, Fail> {
-    match RowLine::new(vec![in heap; row_line::Row::blank(); 16]?) {
-        Ok(line) => Ok(line),
-        Err(_) => Err(Fail::new("no line")),
-    }
+    RowLine::new(vec![in heap; row_line::Row::blank(); 16]?).map_err(|_| Fail::new("no line"))
 }
 
-fn wires(heap: Global) -> Result<WireLine, Fail> {
-    match WireLine::new(vec![in heap; 0; 16672]?) {
-        Ok(line) => Ok(line),
-        Err(_) => Err(Fail::new("no line")),
-    }
+pub(crate) fn wires(heap: Global) -> Result<WireLine, Fail> {
+    WireLine::new(vec![in heap; 0; 16672]?).map_err(|_| Fail::new("no line"))
 }
 
 fn takes_argument(letter: u8) -> bool {
@@ -38,17 +34,15 @@ fn push_arguments(
     letters: &[u8],
     given: &[(u16, u16)],
 ) -> Result<(), AllocError> {
-    let mut left = given;
+    let mut given = given.iter();
     for letter in letters {
-        let mut halves = (0, 0);
-        if takes_argument(*letter) {
-            (halves, left) = match left {
-                [] => ((1, 0), left),
-                [first, rest @ ..] => (*first, rest),
-            };
-        }
-        bytes.extend_from_slice(&halves.0.to_be_bytes())?;
-        bytes.extend_from_slice(&halves.1.to_be_bytes())?;
+        let (high, low) = if takes_argument(*letter) {
+            given.next().copied().unwrap_or((1, 0))
+        } else {
+            (0, 0)
+        };
+        bytes.extend_from_slice(&high.to_be_bytes())?;
+        bytes.extend_from_slice(&low.to_be_bytes())?;
     }
     Ok(())
 }
@@ -70,99 +64,46 @@ pub(crate) fn script(
     Ok(bytes)
 }
 
-fn printed<A: Line + Drop, B: Line + Drop, K: Check + Drop>(
+// A script, and what its rehearsal must print.
+#[derive(Clone, Copy)]
+struct Trial<'a> {
     heap: Global,
-    script: &[u8],
-    lines: (A, B),
-    k: K,
-) -> Result<String, Fail> {
-    let mut text = String::new(heap);
-    match rehearse(heap, script, lines, k) {
-        Ok(run) => {
-            for place in 0..run.journal.entries.len() {
-                if let Some(row) = Row::of(script, &run.journal, place) {
+    script: &'a [u8],
+    expected: &'a str,
+}
+
+impl<'a> Trial<'a> {
+    fn printed<A: Line + Drop, B: Line + Drop, K: Check + Drop>(
+        &self,
+        lines: (A, B),
+        check: K,
+    ) -> Result<String, Fail> {
+        let mut text = String::new(self.heap);
+        match rehearse(self.heap, self.script, lines, check) {
+            Ok(run) => {
+                for row in Rows::new(self.script, &run.journal) {
                     writeln!(text, "{row}")?;
                 }
             }
+            Err(Failure::Refused(why)) => writeln!(text, "refused {}", why.number())?,
+            Err(Failure::OutOfMemory(e)) => return Err(e.into()),
         }
-        Err(Halted::Refused(why)) => {
-            let number = why.number();
-            writeln!(text, "refused {number}")?;
+        Ok(text)
+    }
+
+    fn over<A: Line + Drop, B: Line + Drop, K: Check + Drop>(
+        &self,
+        rt: &impl Abort,
+        lines: (A, B),
+        check: K,
+    ) -> Result<(), Fail> {
+        let text = self.printed(lines, check)?;
+        for (found, wanted) in text.as_str().lines().zip(self.expected.lines()) {
+            assert_eq!(rt; found, wanted);
         }
-        Err(Halted::OutOfMemory(e)) => return Err(e.into()),
+        assert!(rt; text.as_str() == self.expected);
+        Ok(())
     }
-    Ok(text)
-}
-
-fn compare<A: Line + Drop, B: Line + Drop, K: Check + Drop>(
-    rt: &impl Abort,
-    heap: Global,
-    script: &[u8],
-    lines: (A, B),
-    k: K,
-    expected: &str,
-) -> Result<(), Fail> {
-    let text = printed(heap, script, lines, k)?;
-    for (found, wanted) in text.as_str().lines().zip(expected.lines()) {
-        assert_eq!(rt; found, wanted);
-    }
-    assert!(rt; text.as_str() == expected);
-    Ok(())
-}
-
-fn over_rows(rt: &impl Abort, heap: Global, script: &[u8], expected: &str) -> Result<(), Fail> {
-    compare(
-        rt,
-        heap,
-        script,
-        (rows(heap)?, rows(heap)?),
-        SumCheck,
-        expected,
-    )?;
-    compare(
-        rt,
-        heap,
-        script,
-        (rows(heap)?, rows(heap)?),
-        LongCheck,
-        expected,
-    )?;
-    compare(
-        rt,
-        heap,
-        script,
-        (rows(heap)?, wires(heap)?),
-        SumCheck,
-        expected,
-    )
-}
-
-fn over_wires(rt: &impl Abort, heap: Global, script: &[u8], expected: &str) -> Result<(), Fail> {
-    compare(
-        rt,
-        heap,
-        script,
-        (wires(heap)?, rows(heap)?),
-        SumCheck,
-        expected,
-    )?;
-    compare(
-        rt,
-        heap,
-        script,
-        (wires(heap)?, wires(heap)?),
-        SumCheck,
-        expected,
-    )?;
-    let counted = Counted::new(rows(heap)?);
-    compare(
-        rt,
-        heap,
-        script,
-        (wires(heap)?, counted),
-        LongCheck,
-        expected,
-    )
 }
 
 // What is printed is the same over every pair of lines and under either check.
@@ -172,6 +113,16 @@ pub(crate) fn prints(
     script: &[u8],
     expected: &str,
 ) -> Result<(), Fail> {
-    over_rows(rt, heap, script, expected)?;
-    over_wires(rt, heap, script, expected)
+    let trial = Trial {
+        heap,
+        script,
+        expected,
+    };
+    trial.over(rt, (rows(heap)?, rows(heap)?), SumCheck)?;
+    trial.over(rt, (rows(heap)?, rows(heap)?), LongCheck)?;
+    trial.over(rt, (rows(heap)?, wires(heap)?), SumCheck)?;
+    trial.over(rt, (wires(heap)?, rows(heap)?), SumCheck)?;
+    trial.over(rt, (wires(heap)?, wires(heap)?), SumCheck)?;
+    let counted = Counted::new(rows(heap)?);
+    trial.over(rt, (wires(heap)?, counted), LongCheck)
 }

@@ -1,4 +1,3 @@
-pub mod Lists
 pub mod Lawful
 pub mod Notes
 pub mod Starting

@@ -1,5 +1,7 @@
 -- What an answer to a whole run says.
 use Rattle.std.specs.Prelude.{◌≡◌, ℕ, List, Ok, Err, Result}
+use Rattle.refusal.specs.declared.Failure.{Failure}
+use Rattle.refusal.specs.declared.Failure.TheVariants as failure
 use Rattle.block_check.specs.Law.{Code}
 use Rattle.line.specs.declared.Line.{Ghosts}
 use Rattle.rules.specs.declared.call.Call.{Call}
@@ -9,6 +11,11 @@ use Rattle.journal.specs.declared.carry.Run.{Run}
 use Rattle.journal.specs.declared.carry.Stopped.{Stopped}
 use Rattle.journal.specs.declared.carry.Stopped.TheVariants.{Unmade, OutOfMemory}
 use Rattle.journal.specs.Runs.{Ran, begun, ran, SoFar, shown, FaithfulSoFar}
+
+-- why a run stopped, without what it hands back
+abbrev pub stops_as : {A B K : Type 0} → Stopped A B K → Failure
+stops_as (Unmade n) = n.why
+stops_as (OutOfMemory r e) = failure.OutOfMemory e
 
 module _ {A B K : Type 0} (k : Code) (a : Ghosts A) (b : Ghosts B) (p : Parts A B K) (calls : List Call) (payloads scratch : List ℕ) where
   -- The rules make a link of the parts; the journal, the link and the scratch show what `Done` says of the run of the

@@ -15,6 +15,7 @@ use Rattle.link.specs.Worlds.{world}
 use Rattle.journal.specs.declared.entry.Totals.{Totals}
 use Rattle.journal.specs.declared.entry.Entry.{Entry}
 use Rattle.journal.specs.declared.journal.Journal.{Journal}
+use Rattle.journal.specs.declared.carry.Run.{Run}
 use Rattle.journal.specs.Pasts.{past_of}
 
 -- what is told of a call: its answer, and then the totals of both ends
@@ -78,6 +79,9 @@ shown a b l j scratch = record {
   told = map told_of (vec_items j.entries);
   scratch = scratch;
 }
+
+abbrev pub shows : {A B K : Type 0} → Ghosts A → Ghosts B → Run A B K → List ℕ → Ran
+shows a b r scratch = shown a b r.link r.journal scratch
 
 -- The law, of what a run has shown: delivered in order, accounted for and agreed, both ways.
 pub record FaithfulSoFar (a b : Parameters) (r : Ran) : Type 0 where

@@ -1,12 +1,13 @@
 // A whole run: a link is made, and a list of calls is carried out on it.
-ghost use Rattle.journal.specs.Outcomes.{CarriedOut};
+ghost use Rattle.std.specs.Prelude.{◌≡◌};
+ghost use Rattle.journal.specs.Outcomes.{CarriedOut, stops_as};
 
 use crate::journal::Journal;
-use crate::step::carry_all;
 use block_check::Check;
 use line::Line;
 use link::link::Link;
 use link::parts::{NotMade, Parts};
+use refusal::Failure;
 use rules::call::Call;
 use std::alloc::{AllocError, Global};
 
@@ -24,6 +25,18 @@ pub enum Stopped<A: Line, B: Line, K: Check> {
     OutOfMemory(Run<A, B, K>, AllocError),
 }
 
+// Whoever has no use for what a stopped run leaves passes on why it stopped by `?`.
+impl<A: Line + Drop, B: Line + Drop, K: Check + Drop> From<Stopped<A, B, K>> for Failure {
+    ghost from_gives = { λ stopped failure. failure ≡ stops_as stopped };
+
+    fn from(stopped: Stopped<A, B, K>) -> Failure {
+        match stopped {
+            Stopped::Unmade(not_made) => not_made.why,
+            Stopped::OutOfMemory(_, e) => Failure::OutOfMemory(e),
+        }
+    }
+}
+
 pub fn carry_out<A: Line, B: Line, K: Check>(
     heap: Global,
     parts: Parts<A, B, K>,
@@ -33,13 +46,11 @@ pub fn carry_out<A: Line, B: Line, K: Check>(
 ) -> Result<Run<A, B, K>, Stopped<A, B, K>>
     ensures { CarriedOut K.Check.code A.Line B.Line parts calls.now payloads.now scratch.old result scratch.new }
 {
-    let mut link = match Link::new(heap, parts) {
-        Ok(link) => link,
-        Err(not_made) => return Err(Stopped::Unmade(not_made)),
-    };
-    let mut journal = Journal::new(heap);
-    match carry_all(heap, &mut link, &mut journal, calls, payloads, scratch) {
-        Ok(()) => Ok(Run { link, journal }),
-        Err(e) => Err(Stopped::OutOfMemory(Run { link, journal }, e)),
+    let link = Link::new(heap, parts).map_err(Stopped::Unmade)?;
+    let journal = Journal::new(heap);
+    let mut run = Run { link, journal };
+    match run.carry_all(heap, calls, payloads, scratch) {
+        Ok(()) => Ok(run),
+        Err(e) => Err(Stopped::OutOfMemory(run, e)),
     }
 }

@@ -1,13 +1,13 @@
-// One call of a run.
-ghost use Rattle.std.specs.Prelude.{◌≡◌, ◌≤◌, [], length, vec_len, vec_capacity, OnErr, OnOk};
-ghost use Rattle.rules.specs.Steps.{act_of, answer_of, payload_of};
+// The calls of a run, one after the other.
+ghost use Rattle.std.specs.Prelude.{◌≡◌, length, OnErr, OnOk};
+ghost use Rattle.rules.specs.Steps.{act_of, answer_of};
 ghost use Rattle.link.specs.Worlds.{world, end_at, outcome, steps};
-ghost use Rattle.journal.specs.Pasts.{past_of, Room};
-ghost use Rattle.journal.specs.Runs.{goes_on, ran, SoFar, shown, Level};
+ghost use Rattle.journal.specs.Pasts.{past_at};
+ghost use Rattle.journal.specs.Runs.{goes_on, ran, SoFar, shows, Level};
 
+use crate::blank::Blank;
+use crate::carry::Run;
 use crate::entry::{Entry, Totals};
-use crate::journal::Journal;
-use crate::past::Past;
 use block_check::Check;
 use line::Line;
 use link::link::Link;
@@ -15,6 +15,8 @@ use rules::call::{Answer, Call, Step};
 use rules::seat::Side;
 use std::alloc::{AllocError, Global};
 
+// A match on calls as values, since a rule of the project has the law of lists of calls: of closures nothing is known.
+// Payloads and scratch stay two parameters: a call reads the one while it writes the other, so a struct is taken apart.
 fn perform<A: Line, B: Line, K: Check>(
     link: &mut Link<A, B, K>,
     call: Call,
@@ -38,79 +40,62 @@ fn perform<A: Line, B: Line, K: Check>(
     }
 }
 
-// How things stand at an end after a call.
-fn totals<A: Line, B: Line, K: Check>(link: &Link<A, B, K>, side: Side, past: &Past) -> Totals
-    ensures { result ≡ record { outstanding = length (end_at (world A.Line B.Line link.now) side).outstanding; handed = length (past_of past.now).handed } }
-{
-    Totals {
-        outstanding: link.outstanding(side),
-        handed: past.handed.len(),
+impl<A: Line, B: Line, K: Check> Run<A, B, K> {
+    // How things stand at an end.
+    fn totals(&self, side: Side) -> Totals
+        ensures { result ≡ record { outstanding = length (end_at (world A.Line B.Line self.now.link) side).outstanding; handed = length (past_at self.now.journal side).handed } }
+    {
+        let past = match side {
+            Side::Controller => &self.journal.controller,
+            Side::Sled => &self.journal.sled,
+        };
+        Totals {
+            outstanding: self.link.outstanding(side),
+            handed: past.handed.len(),
+        }
     }
-}
 
-// Carries a call out and writes it down, in memory that was reserved for it.
-fn go_on<A: Line, B: Line, K: Check>(
-    link: &mut Link<A, B, K>,
-    journal: &mut Journal,
-    call: Call,
-    payloads: &[u8],
-    scratch: &mut [u8],
-    memory: Vec<u8>,
-)
-    requires empty { memory.items ≡ [] }
-    requires none { vec_len memory ≡ 0 }
-    requires sent { length (payload_of payloads.now call.step) ≤ vec_capacity memory }
-    requires heard { length scratch.old ≤ vec_capacity memory }
-    requires room { Room journal.old }
-    requires level { Level (shown A.Line B.Line link.old journal.old scratch.old) }
-    ensures { shown A.Line B.Line link.new journal.new scratch.new ≡ goes_on K.Check.code payloads.now (shown A.Line B.Line link.old journal.old scratch.old) call }
-{
-    let answer = perform(link, call, payloads, scratch);
-    journal.note(call, payloads, answer, scratch, memory);
-    let controller = totals(link, Side::Controller, &journal.controller);
-    let sled = totals(link, Side::Sled, &journal.sled);
-    journal.entries.push_reserved(Entry {
-        answer,
-        controller,
-        sled,
-    });
-}
-
-// One call more. Memory is reserved first: where there is none, nothing has happened.
-fn carry<A: Line, B: Line, K: Check>(
-    heap: Global,
-    link: &mut Link<A, B, K>,
-    journal: &mut Journal,
-    call: Call,
-    payloads: &[u8],
-    scratch: &mut [u8],
-) -> Result<(), AllocError>
-    requires { Level (shown A.Line B.Line link.old journal.old scratch.old) }
-    ensures ok { OnOk result (shown A.Line B.Line link.new journal.new scratch.new ≡ goes_on K.Check.code payloads.now (shown A.Line B.Line link.old journal.old scratch.old) call) }
-    ensures err { OnErr result (shown A.Line B.Line link.new journal.new scratch.new ≡ shown A.Line B.Line link.old journal.old scratch.old) }
-{
-    journal.make_room()?;
-    let size = scratch.len().max(call.step.payload(payloads).len());
-    let memory = Vec::with_capacity(heap, size)?;
-    go_on(link, journal, call, payloads, scratch, memory);
-    Ok(())
-}
-
-// The calls one after the other, as far as memory lasts.
-pub(crate) fn carry_all<A: Line, B: Line, K: Check>(
-    heap: Global,
-    link: &mut Link<A, B, K>,
-    journal: &mut Journal,
-    calls: &[Call],
-    payloads: &[u8],
-    scratch: &mut [u8],
-) -> Result<(), AllocError>
-    requires { Level (shown A.Line B.Line link.old journal.old scratch.old) }
-    ensures ok { OnOk result (shown A.Line B.Line link.new journal.new scratch.new ≡ ran K.Check.code payloads.now (shown A.Line B.Line link.old journal.old scratch.old) calls.now) }
-    ensures err { OnErr result (SoFar K.Check.code payloads.now (shown A.Line B.Line link.old journal.old scratch.old) calls.now (shown A.Line B.Line link.new journal.new scratch.new)) }
-{
-    for call in calls {
-        carry(heap, link, journal, *call, payloads, scratch)?;
+    // Carries one call more out and writes it down. Memory is reserved first: without it, nothing has happened.
+    #[tactic(auto, unfolding(crate::specs::Runs::goes_on, rules::specs::Links::stepped))]
+    fn carry(
+        &mut self,
+        heap: Global,
+        call: Call,
+        payloads: &[u8],
+        scratch: &mut [u8],
+    ) -> Result<(), AllocError>
+        requires { Level (shows A.Line B.Line self.old scratch.old) }
+        ensures ok { OnOk result (shows A.Line B.Line self.new scratch.new ≡ goes_on K.Check.code payloads.now (shows A.Line B.Line self.old scratch.old) call) }
+        ensures err { OnErr result (shows A.Line B.Line self.new scratch.new ≡ shows A.Line B.Line self.old scratch.old) }
+    {
+        self.journal.make_room()?;
+        let blank = Blank::new(heap, scratch.len().max(call.step.payload(payloads).len()))?;
+        let answer = perform(&mut self.link, call, payloads, scratch);
+        self.journal.note(call, payloads, answer, scratch, blank);
+        let entry = Entry {
+            answer,
+            controller: self.totals(Side::Controller),
+            sled: self.totals(Side::Sled),
+        };
+        self.journal.entries.push_reserved(entry);
+        Ok(())
     }
-    Ok(())
+
+    // As far as memory lasts.
+    pub(crate) fn carry_all(
+        &mut self,
+        heap: Global,
+        calls: &[Call],
+        payloads: &[u8],
+        scratch: &mut [u8],
+    ) -> Result<(), AllocError>
+        requires { Level (shows A.Line B.Line self.old scratch.old) }
+        ensures ok { OnOk result (shows A.Line B.Line self.new scratch.new ≡ ran K.Check.code payloads.now (shows A.Line B.Line self.old scratch.old) calls.now) }
+        ensures err { OnErr result (SoFar K.Check.code payloads.now (shows A.Line B.Line self.old scratch.old) calls.now (shows A.Line B.Line self.new scratch.new)) }
+    {
+        for call in calls {
+            self.carry(heap, *call, payloads, scratch)?;
+        }
+        Ok(())
+    }
 }

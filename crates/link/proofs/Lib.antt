@@ -1,3 +1,2 @@
 pub mod Fresh
 pub mod Leading
-pub mod Refusing

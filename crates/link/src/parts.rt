@@ -1,8 +1,8 @@
 // What a link is made of.
 use block_check::Check;
-use end::new::Unmade;
 use line::Line;
 use login::Parameters;
+use refusal::Failure;
 
 // For one end: its limits, the line towards it and its store.
 #[derive(Drop)]
@@ -22,6 +22,6 @@ pub struct Parts<A: Line, B: Line, K: Check> {
 // Why no link was made, and what it was to be made of, handed back.
 #[derive(Drop)]
 pub struct NotMade<A: Line, B: Line, K: Check> {
-    pub why: Unmade,
+    pub why: Failure,
     pub parts: Parts<A, B, K>,
 }

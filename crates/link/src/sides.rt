@@ -1,6 +1,7 @@
 // The calls at either side. Of each, `step` says that it did what the rules say; `law` that whatever run from a fresh
-// link has led here, it leads on by this call with its answer and scratch, and the law of whole runs holds of it; `kept`
-// that a refused call has left both ends and the bytes of both stores as they were.
+// link has led here, it leads on by this call with its answer and scratch, and the law of whole runs holds of it; and
+// `kept` that a refused call has left both ends and the bytes of both stores as they were.
+// Each match stays: its arms call at two types, Node<A> and Node<B>, and a trait for that needs a struct for each call.
 ghost use Rattle.std.specs.Prelude.{◌≡◌, OnErr};
 ghost use Rattle.rules.specs.Links.{open_link, send, poll, timeout, lose, spoil, opened, sent, polled, timed_out, lost};
 ghost use Rattle.law.specs.Law.{LeadsOn};

@@ -1,43 +1,15 @@
 -- What an answer to the rehearsal of a script says.
-use Rattle.std.specs.Prelude.{◌≡◌, ℕ, ◌%◌, ◌<◌, true, List, [], length, Ok, Err, vec_len, Result, slice_index}
+use Rattle.std.specs.Prelude.{◌≡◌, ℕ, ◌%◌, ◌<◌, true, List, [], length, Ok, Err, Result, slice_index}
+use Rattle.refusal.specs.declared.Failure.{Failure}
+use Rattle.refusal.specs.declared.Failure.TheVariants.{Refused, OutOfMemory}
 use Rattle.block_check.specs.Law.{Code}
 use Rattle.line.specs.declared.Line.{Ghosts}
-use Rattle.end.specs.declared.new.Unmade.{Unmade}
-use Rattle.end.specs.declared.new.Unmade.TheVariants.{Refused as Declined, OutOfMemory as Wanting}
 use Rattle.rules.specs.Links.{link_of}
-use Rattle.script.specs.declared.read.Unread.{Unread}
-use Rattle.script.specs.declared.read.Unread.TheVariants.{Refused as Unfit, OutOfMemory as Full}
-use Rattle.script.specs.Patterns.{Patterned}
 use Rattle.script.specs.Format.{Asked, shaped, read_script}
 use Rattle.journal.specs.declared.carry.Run.{Run}
-use Rattle.journal.specs.declared.carry.Stopped.{Stopped}
-use Rattle.journal.specs.declared.carry.Stopped.TheVariants.{Unmade as NotMade, OutOfMemory as StoppedShort}
 use Rattle.journal.specs.Runs.{begun, ran, shown, FaithfulSoFar}
-use Rattle.rehearsal.specs.declared.rehearse.Memory.{Memory}
-use Rattle.rehearsal.specs.declared.rehearse.Halted.{Halted}
-use Rattle.rehearsal.specs.declared.rehearse.Halted.TheVariants.{Refused, OutOfMemory}
 
--- a refusal passes unaltered
-abbrev pub halts_as : Unread → Halted
-halts_as (Unfit why) = Refused why
-halts_as (Full e) = OutOfMemory e
-
-abbrev pub not_made_as : Unmade → Halted
-not_made_as (Declined why) = Refused why
-not_made_as (Wanting e) = OutOfMemory e
-
-abbrev pub stops_as : {A B K : Type 0} → Stopped A B K → Halted
-stops_as (NotMade n) = not_made_as n.why
-stops_as (StoppedShort r e) = OutOfMemory e
-
--- stores of 4,096 bytes, a scratch of 520, and the pattern
-pub record Ready (m : Memory) : Type 0 where
-  pub payloads : Patterned m.payloads
-  pub scratch : vec_len m.scratch ≡ 520
-  pub near : vec_len m.near ≡ 4096
-  pub far : vec_len m.far ≡ 4096
-
-abbrev pub Halts : List ℕ → Halted → Type 0
+abbrev pub Halts : List ℕ → Failure → Type 0
 Halts script (Refused why) = read_script script ≡ Err why
 Halts script (OutOfMemory e) = shaped script ≡ true
 
@@ -57,6 +29,6 @@ module _ {A B K : Type 0} (k : Code) (a : Ghosts A) (b : Ghosts B) (script : Lis
     pub done : shown a b r.link r.journal left ≡ ran k payloads (begun (link_of asked.controller asked.sled 4096 4096 (a.waiting lines.0) (b.waiting lines.1)) scratch) asked.calls
     pub law : a.waiting lines.0 ≡ [] → b.waiting lines.1 ≡ [] → FaithfulSoFar asked.controller asked.sled (shown a b r.link r.journal left)
 
-  abbrev pub Rehearsed : Result (Run A B K) Halted → Type 0
+  abbrev pub Rehearsed : Result (Run A B K) Failure → Type 0
   Rehearsed (Ok r) = WentThrough r
   Rehearsed (Err h) = Halts script h

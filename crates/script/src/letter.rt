@@ -1,29 +1,20 @@
 // One step of a script: its letter and its argument, which is handed over in two halves.
 ghost use Rattle.std.specs.Prelude.{◌≡◌};
-ghost use Rattle.rules.specs.Frames.{origin_of};
 ghost use Rattle.script.specs.Format.{call_of};
 ghost use Rattle.script.specs.Format as format;
 
+use block::heading::Protocol;
 use rules::answer::Tag;
 use rules::call::{Call, Change, Part, Step};
 use rules::seat::Side;
 
-fn origin_of(side: Side) -> u8
-    ensures { result ≡ origin_of side }
-{
-    match side {
-        Side::Controller => 0,
-        Side::Sled => 1,
-    }
-}
-
-// The payload is the beginning of the pattern.
+// A SCSI record of Type 0; the payload is the beginning of the pattern.
 fn sending(side: Side, exchange: u16, size: u16) -> Step
     ensures { result ≡ format.sending side exchange size }
 {
     let tag = Tag {
-        origin: origin_of(side),
-        protocol: 1,
+        origin: side.origin(),
+        protocol: Protocol::Scsi as u8,
         kind: 0,
         exchange,
     };
@@ -40,9 +31,10 @@ fn sending(side: Side, exchange: u16, size: u16) -> Step
 fn spoiling(place: u16, low: u16) -> Step
     ensures { result ≡ format.spoiling place low }
 {
+    let [_, addend] = low.to_be_bytes();
     Step::Spoil(Change {
         place: usize::from(place),
-        addend: (low % 256) as u8,
+        addend,
     })
 }
 

@@ -9,19 +9,20 @@ mod shape;
 #[cfg(test)]
 mod tests {
     use crate::pattern::pattern;
-    use crate::read::{Unread, read};
+    use crate::read::read;
+    use refusal::Failure;
     use rules::answer::Tag;
     use rules::call::{Call, Change, Part, Step};
     use rules::seat::Side;
     use std::alloc::Global;
     use std::test::Fail;
 
-    // The number of the refusal, or 0.
+    // The number of the refusal, by which operators know it, or 0.
     fn refusal(heap: Global, script: &[u8]) -> Result<u8, Fail> {
         match read(heap, script) {
             Ok(_) => Ok(0),
-            Err(Unread::Refused(why)) => Ok(why.number()),
-            Err(Unread::OutOfMemory(e)) => Err(Fail::from(e)),
+            Err(Failure::Refused(why)) => Ok(why.number()),
+            Err(Failure::OutOfMemory(e)) => Err(Fail::from(e)),
         }
     }
 

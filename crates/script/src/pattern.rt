@@ -10,9 +10,5 @@ const LENGTH: usize = 65_535;
 pub fn pattern(heap: Global) -> Result<Vec<u8>, AllocError>
     ensures { IfOk result Patterned }
 {
-    let mut bytes = Vec::with_capacity(heap, LENGTH)?;
-    for i in 0..LENGTH {
-        bytes.push_reserved((i % 256) as u8);
-    }
-    Ok(bytes)
+    (0..LENGTH).map(|i| (i % 256) as u8).collect(heap)
 }

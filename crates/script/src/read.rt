@@ -1,16 +1,15 @@
 // A script, read whole before its first step.
-ghost use Rattle.std.specs.Prelude.{◌≡◌, ◌*◌, ◌≤◌, ◌&&◌, length};
-ghost use Rattle.rules.specs.Ends.{in_limits};
-ghost use Rattle.script.specs.declared.read.Unread.TheVariants.{Refused, OutOfMemory};
+ghost use Rattle.std.specs.Prelude.{◌≡◌, ◌*◌, ◌≤◌, length};
 ghost use Rattle.script.specs.Format.{limits_of};
 ghost use Rattle.script.specs.Answers.{Answers, Follows};
 
 use crate::letter::call_of;
 use crate::shape::{is_shaped, number_at};
 use login::Parameters;
-use refusal::{Layer, Reason, Refusal};
+use refusal::{Failure, Layer, Reason};
 use rules::call::Call;
-use std::alloc::{AllocError, Global};
+use rules::limits::limits_hold;
+use std::alloc::Global;
 
 #[derive(Drop)]
 pub struct Script {
@@ -19,40 +18,18 @@ pub struct Script {
     pub calls: Vec<Call>,
 }
 
-// Why no script was read.
-#[derive(Clone, Copy)]
-pub enum Unread {
-    Refused(Refusal),
-    OutOfMemory(AllocError),
-}
-
-impl From<AllocError> for Unread {
-    ghost from_gives = { λ e r. r ≡ OutOfMemory e };
-
-    fn from(e: AllocError) -> Unread {
-        Unread::OutOfMemory(e)
-    }
-}
-
-fn refused(reason: Reason, layer: Layer) -> Unread
-    ensures { result ≡ Refused (record { reason = reason; layer = layer }) }
-{
-    Unread::Refused(Refusal { reason, layer })
-}
-
 // One call for each letter with its four bytes, or a refusal where one letter is unknown.
-fn read_calls(heap: Global, letters: &[u8], arguments: &[u8]) -> Result<Vec<Call>, Unread>
+#[tactic(auto, using(crate::proofs::Reading::next_letter), unfolding(crate::specs::Format::calls_of))]
+fn read_calls(heap: Global, letters: &[u8], arguments: &[u8]) -> Result<Vec<Call>, Failure>
     requires { 4 * length letters.now ≤ length arguments.now }
     ensures { Follows letters.now arguments.now result }
 {
     let mut calls = Vec::with_capacity(heap, letters.len())?;
-    let mut rest = arguments;
-    for letter in letters {
-        let Some(call) = call_of(*letter, number_at(rest, 0), number_at(rest, 2)) else {
-            return Err(refused(Reason::UnknownLetter, Layer::Bench));
-        };
+    for (letter, argument) in letters.iter().zip(arguments.chunks_exact(4)) {
+        let call = call_of(*letter, number_at(argument, 0), number_at(argument, 2)).ok_or(
+            Layer::Bench.refuses(Reason::UnknownLetter),
+        )?;
         calls.push_reserved(call);
-        rest = &rest[4..];
     }
     Ok(calls)
 }
@@ -68,32 +45,20 @@ fn limits_of(offset: u8, payload: u16) -> Parameters
     }
 }
 
-// Of the baud, which has two bytes, only 0 is out of range.
-fn is_in_range(limits: Parameters) -> bool
-    ensures { result ≡ in_limits limits }
-{
-    limits.offset <= 8 && 270 <= limits.payload && limits.payload <= 512 && 1 <= limits.baud
-}
-
-fn are_in_range(controller: Parameters, sled: Parameters) -> bool
-    ensures { result ≡ in_limits controller && in_limits sled }
-{
-    is_in_range(controller) && is_in_range(sled)
-}
-
 // Refused for its shape, then for any of its letters, then for its limits.
-pub fn read(heap: Global, script: &[u8]) -> Result<Script, Unread>
+#[tactic(auto, unfolding(crate::specs::Format::read_script))]
+pub fn read(heap: Global, script: &[u8]) -> Result<Script, Failure>
     ensures { Answers script.now result }
 {
     if !is_shaped(script) {
-        return Err(refused(Reason::ScriptShape, Layer::Bench));
+        return Err(Layer::Bench.refuses(Reason::ScriptShape).into());
     }
     let controller = limits_of(8, number_at(script, 2));
     let sled = limits_of(4, number_at(script, 4));
-    let behind_letters = 6 + usize::from(number_at(script, 0));
-    let calls = read_calls(heap, &script[6..behind_letters], &script[behind_letters..])?;
-    if !are_in_range(controller, sled) {
-        return Err(refused(Reason::LimitOutOfRange, Layer::End));
+    let (letters, arguments) = script[6..].split_at(usize::from(number_at(script, 0)));
+    let calls = read_calls(heap, letters, arguments)?;
+    if !limits_hold(controller) || !limits_hold(sled) {
+        return Err(Layer::End.refuses(Reason::LimitOutOfRange).into());
     }
     Ok(Script {
         controller,

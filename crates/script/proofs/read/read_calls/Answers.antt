@@ -1,21 +1,12 @@
-use Rattle.std.proofs.Common.{vec_items, refl, rules}
-use Rattle.std.proofs.lemmas.List.{take_rest}
-use Rattle.script.proofs.Reading.{again, stops, ends}
+use Rattle.std.proofs.Common.{◌≡◌, length, Some, vec_items, ap, ◌∙◌, length-append, arith}
+use Rattle.script.specs.Format.{number_at, call_of}
+use Rattle.script.proofs.Reading.{again}
 use Rattle.script.proofs.read.read_calls.Goals as goal
-
-pub returns-in_default : goal.returns-in_default
-returns-in_default c =
-    let none = stops c.args.letters.now c.loop-letter.rest.now c.loop-letter.letter-index (vec_items c.loop-letter.calls) _ c.loop-letter.invariant.3 c.loop-letter-test.true _ _ _ c.number_at.ensures c.number_at-in-loop-letter.ensures c.call_of.ensures c.in_default.is in
-    rw c.refused.ensures (none, refl)
 
 pub loop-letter-preserved : goal.loop-letter-preserved
 loop-letter-preserved c =
-    let rest = c.loop-letter.rest.now in (
-      search rules,
-      search rules,
-      search rules,
-      again c.args.letters.now rest c.loop-letter.letter-index (vec_items c.loop-letter.calls) _ c.loop-letter.invariant.3 c.loop-letter-test.true _ _ _ c.number_at.ensures c.number_at-in-loop-letter.ensures c.call_of.ensures c.in-Some.call _ _ c.in-Some.is c.push_reserved.ensures.items (take_rest rest 4),
-    )
-
-pub returns : goal.returns
-returns c = ends c.args.letters.now c.loop-letter.rest.now _ (vec_items c.loop-letter.calls) _ c.loop-letter.invariant.3 c.loop-letter-test.false
+    let i = c.loop-letter.invariant in
+    let e = c.in-Some.ensures.steps in
+    let told : call_of c.in-Some.letter.now (number_at c.in-Some.argument.now 0) (number_at c.in-Some.argument.now 2) ≡ Some c.in_ok-call.call = cc c.in_ok-call.ensures.ok_part in
+    let more = again _ _ (vec_items c.loop-letter.calls) _ i.3 _ _ _ _ e.0 e.1.1.0 (e.1.1.1 ∙ i.0) c.in_ok-call.call told in
+    (e.1.0 ∙ i.0, omega (arith, ap length e.0), omega (arith, ap length e.0, simp length-append at (ap length e.1.1.0)), rw c.push_reserved.ensures.items more)

@@ -1,19 +1,10 @@
-use Rattle.rules.specs.Links.{timeout}
-use Rattle.link.specs.Worlds.{world}
-use Rattle.link.proofs.Leading.{led}
-use Rattle.link.proofs.Refusing.{kept_at_controller, kept_at_sled}
+use Rattle.std.proofs.Common.{rules}
+use Rattle.rules.specs.Links.{timeout, timed_out}
+use Rattle.link.proofs.Leading.{leads_on}
 use Rattle.link.proofs.link.Link.timeout.Goals as goal
 
-pub returns-in-Controller : goal.returns-in-Controller
-returns-in-Controller g c =
-    let w = world g.A.Line g.B.Line c.args.self.now in
-    let on = led g.K.Check.code g.met.K.Check.lawful w timeout tt c.in-Controller.is c.args.scratch.now c.timeout.ensures.step in
-    let still = kept_at_controller c.args.self.now c.timeout.new.self c.timeout.new.outgoing c.timeout.result c.timeout.ensures.kept in
-    record { step = on.step; law = on.law; kept = still }
+pub returns-in-Controller-clause-law : goal.returns-in-Controller-clause-law
+returns-in-Controller-clause-law g c = leads_on g.K.Check.code g.met.K.Check.lawful _ _ c.args.side timeout tt (timed_out c.timeout.result) c.args.scratch.now c.timeout.new.scratch (search rules)
 
-pub returns-in-Sled : goal.returns-in-Sled
-returns-in-Sled g c =
-    let w = world g.A.Line g.B.Line c.args.self.now in
-    let on = led g.K.Check.code g.met.K.Check.lawful w timeout tt c.in-Sled.is c.args.scratch.now c.timeout-in-Sled.ensures.step in
-    let still = kept_at_sled c.args.self.now c.timeout-in-Sled.new.self c.timeout-in-Sled.new.outgoing c.timeout-in-Sled.result c.timeout-in-Sled.ensures.kept in
-    record { step = on.step; law = on.law; kept = still }
+pub returns-in-Sled-clause-law : goal.returns-in-Sled-clause-law
+returns-in-Sled-clause-law g c = leads_on g.K.Check.code g.met.K.Check.lawful _ _ c.args.side timeout tt (timed_out c.timeout-in-Sled.result) c.args.scratch.now c.timeout-in-Sled.new.scratch (search rules)
