@@ -27,6 +27,7 @@ fn chosen(rt: &HostRuntime) -> anyhow::Result<Option<Choice>> {
     if args.next().is_some() {
         return Ok(None);
     }
+    // `FromStr` would be no plainer: it wants an error type, and nobody would read the error.
     Ok(match word.as_str() {
         "sum" => Some(Choice::Sum),
         "long" => Some(Choice::Long),
@@ -37,7 +38,7 @@ fn chosen(rt: &HostRuntime) -> anyhow::Result<Option<Choice>> {
 fn print<K: Check>(rt: &HostRuntime, capture: &[u8]) -> anyhow::Result<()> {
     let items: Vec<Item> = survey::<K>(rt.alloc(), capture)?;
     let mut out = BufWriter::new(rt.alloc(), rt.stdout())?;
-    for item in items.iter() {
+    for item in &items {
         writeln!(out, "{item}")?;
     }
     let tally = Tally::of(items.as_slice());
@@ -46,19 +47,16 @@ fn print<K: Check>(rt: &HostRuntime, capture: &[u8]) -> anyhow::Result<()> {
     Ok(())
 }
 
-fn run(rt: &HostRuntime) -> anyhow::Result<()> {
-    let Some(choice) = chosen(rt)? else {
+fn main(rt: HostRuntime) -> anyhow::Result<()> {
+    let Some(choice) = chosen(&rt)? else {
         println!(rt; "usage: capture [sum|long] < CAPTURE")?;
         return Ok(());
     };
     let mut capture = Vec::new(rt.alloc());
     rt.stdin().read_to_end(&mut capture)?;
+    // The argument chooses a type, so a closure would be no plainer: it would be called in two arms as well.
     match choice {
-        Choice::Sum => print::<SumCheck>(rt, capture.as_slice()),
-        Choice::Long => print::<LongCheck>(rt, capture.as_slice()),
+        Choice::Sum => print::<SumCheck>(&rt, capture.as_slice()),
+        Choice::Long => print::<LongCheck>(&rt, capture.as_slice()),
     }
-}
-
-fn main(rt: HostRuntime) -> anyhow::Result<()> {
-    run(&rt)
 }

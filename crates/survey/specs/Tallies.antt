@@ -1,9 +1,11 @@
 -- How the items of a survey are counted. A count that would pass the largest number stays there.
-use Rattle.std.specs.Prelude.{ℕ, ◌+◌, ◌-◌, ◌^◌, min, cond, List, fold, ◌==◌}
+use Rattle.std.specs.Prelude.{ℕ, ◌+◌, ◌-◌, ◌^◌, min, List, fold, Ok, Err, Result}
+use Rattle.block.specs.declared.heading.Protocol.{Protocol}
+use Rattle.block.specs.declared.heading.Protocol.TheVariants.{LinkService, Scsi, FastAccess, Vendor, Reserved}
+use Rattle.block.specs.Headings.{protocol_of}
 use Rattle.block.specs.declared.status.Status.{Status}
 use Rattle.block.specs.declared.status.Status.TheVariants.{Good, BadCheck, OverLength, UnderLength, Unsupported, OutOfResources, LogInInProgress, IllegalPause, OutOfTurn, BadLogIn, BadRecord}
-use Rattle.survey.specs.declared.seen.Seen.{Seen}
-use Rattle.survey.specs.declared.seen.Seen.TheVariants.{Damaged, WellFormed}
+use Rattle.survey.specs.declared.seen.Message.{Message}
 use Rattle.survey.specs.declared.item.Item.{Item}
 use Rattle.survey.specs.declared.item.Item.TheVariants.{Gap, Block}
 use Rattle.survey.specs.declared.tally.Protocols.{Protocols}
@@ -16,14 +18,12 @@ more n by = min (n + by) (2 ^ 64 - 1)
 abbrev pub no_protocols : Protocols
 no_protocols = record { service = 0; scsi = 0; fast = 0; vendor = 0; reserved = 0 }
 
--- 0 is link service, 1 SCSI, 2 Fast Access, 3 vendor, any other reserved
-abbrev pub by_protocol : Protocols → ℕ → Protocols
-by_protocol p protocol =
-    cond (protocol == 0) (record { service = more p.service 1; scsi = p.scsi; fast = p.fast; vendor = p.vendor; reserved = p.reserved })
-    (cond (protocol == 1) (record { service = p.service; scsi = more p.scsi 1; fast = p.fast; vendor = p.vendor; reserved = p.reserved })
-    (cond (protocol == 2) (record { service = p.service; scsi = p.scsi; fast = more p.fast 1; vendor = p.vendor; reserved = p.reserved })
-    (cond (protocol == 3) (record { service = p.service; scsi = p.scsi; fast = p.fast; vendor = more p.vendor 1; reserved = p.reserved })
-    (record { service = p.service; scsi = p.scsi; fast = p.fast; vendor = p.vendor; reserved = more p.reserved 1 }))))
+abbrev pub by_protocol : Protocols → Protocol → Protocols
+by_protocol p LinkService = record { service = more p.service 1; scsi = p.scsi; fast = p.fast; vendor = p.vendor; reserved = p.reserved }
+by_protocol p Scsi = record { service = p.service; scsi = more p.scsi 1; fast = p.fast; vendor = p.vendor; reserved = p.reserved }
+by_protocol p FastAccess = record { service = p.service; scsi = p.scsi; fast = more p.fast 1; vendor = p.vendor; reserved = p.reserved }
+by_protocol p Vendor = record { service = p.service; scsi = p.scsi; fast = p.fast; vendor = more p.vendor 1; reserved = p.reserved }
+by_protocol p Reserved = record { service = p.service; scsi = p.scsi; fast = p.fast; vendor = p.vendor; reserved = more p.reserved 1 }
 
 abbrev pub no_statuses : Statuses
 no_statuses = record { check = 0; over = 0; under = 0 }
@@ -45,16 +45,16 @@ by_status s BadRecord = s
 abbrev pub no_items : Tally
 no_items = record { blocks = 0; formed = 0; well = no_protocols; damaged = no_statuses; skipped = 0; faulty = 0 }
 
-abbrev pub with_seen : Tally → Seen → Tally
-with_seen t (WellFormed m) = record {
+abbrev pub with_seen : Tally → Result Message Status → Tally
+with_seen t (Ok m) = record {
   blocks = more t.blocks 1;
   formed = more t.formed 1;
-  well = by_protocol t.well m.heading.protocol;
+  well = by_protocol t.well (protocol_of m.heading);
   damaged = t.damaged;
   skipped = t.skipped;
   faulty = t.faulty;
 }
-with_seen t (Damaged status) = record {
+with_seen t (Err status) = record {
   blocks = more t.blocks 1;
   formed = t.formed;
   well = t.well;

@@ -1,5 +1,6 @@
 // What a survey finds in a capture, in order.
-use crate::seen::Seen;
+use crate::seen::Message;
+use block::status::Status;
 
 // Bytes that belong to no block.
 #[derive(Clone, Copy)]
@@ -16,7 +17,8 @@ pub struct Carried {
     pub offset: usize,
     // of the block, unescaped
     pub length: usize,
-    pub seen: Seen,
+    // what it says, or the status that a receiver would give to a damaged one
+    pub seen: Result<Message, Status>,
 }
 
 #[derive(Clone, Copy)]

@@ -13,20 +13,14 @@ use wire::write::measure;
 fn count_begun(bytes: &[u8]) -> usize
     ensures { result ≡ begun bytes.now }
 {
-    let mut n = 0;
-    for b in bytes {
-        if *b == 0x02 {
-            n += 1;
-        }
-    }
-    n
+    bytes.iter().filter(|b| **b == 0x02).count()
 }
 
 // Notes bytes that belong to no block, if there are any.
 fn skip(offset: usize, bytes: &[u8], items: &mut Vec<Item>) -> Result<(), AllocError>
     ensures { OnOk result (items.new.items ≡ items.old.items ++ gap_item offset bytes.now) }
 {
-    if bytes.len() > 0 {
+    if !bytes.is_empty() {
         items.push(Item::Gap(Skipped {
             offset,
             length: bytes.len(),
@@ -63,26 +57,15 @@ fn step<'a, K: Check>(
     Ok(Some(rest))
 }
 
-// The whole pass, with a buffer for the blocks.
-fn pass<K: Check>(
-    capture: &[u8],
-    buf: &mut [u8; 520],
-    items: &mut Vec<Item>,
-) -> Result<(), AllocError>
-    ensures { OnOk result (items.new.items ≡ items.old.items ++ survey_of K.Check.code.width K.Check.code.value capture.now) }
-{
-    let mut input = capture;
-    while let Some(rest) = step::<K>(capture.len() - input.len(), input, buf, items)? {
-        input = rest;
-    }
-    Ok(())
-}
-
 // What the capture holds, in order.
 pub fn survey<K: Check>(heap: Global, capture: &[u8]) -> Result<Vec<Item>, AllocError>
     ensures { IfOk result (λ v. v.items ≡ survey_of K.Check.code.width K.Check.code.value capture.now) }
 {
     let mut items = Vec::new(heap);
-    pass::<K>(capture, &mut [0; 520], &mut items)?;
+    let mut buf = [0; 520];
+    let mut input = capture;
+    while let Some(rest) = step::<K>(capture.len() - input.len(), input, &mut buf, &mut items)? {
+        input = rest;
+    }
     Ok(items)
 }

@@ -1,13 +1,14 @@
 // The summary of a survey.
 ghost use Rattle.std.specs.Prelude.{◌≡◌};
-ghost use Rattle.survey.specs.Tallies.{by_protocol, by_status, with_seen, with_item, no_items, tally};
+ghost use Rattle.survey.specs.Tallies.{more, by_protocol, by_status, with_seen, with_item, tally};
 
 use crate::item::Item;
-use crate::seen::Seen;
+use crate::seen::Message;
+use block::heading::Protocol;
 use block::status::Status;
 
 // Well-formed blocks by protocol.
-#[derive(Clone, Copy)]
+#[derive(Clone, Copy, Default)]
 pub struct Protocols {
     pub service: u64,
     pub scsi: u64,
@@ -17,14 +18,14 @@ pub struct Protocols {
 }
 
 // Damaged blocks by the status that a receiver would give.
-#[derive(Clone, Copy)]
+#[derive(Clone, Copy, Default)]
 pub struct Statuses {
     pub check: u64,
     pub over: u64,
     pub under: u64,
 }
 
-#[derive(Clone, Copy)]
+#[derive(Clone, Copy, Default)]
 pub struct Tally {
     pub blocks: u64,
     // well-formed blocks in all
@@ -36,16 +37,23 @@ pub struct Tally {
     pub faulty: u64,
 }
 
+// A count that would pass the largest number stays there.
+fn add(count: &mut u64, n: u64)
+    ensures { count.new ≡ more count.old n }
+{
+    *count = count.saturating_add(n);
+}
+
 impl Protocols {
-    fn note(&mut self, protocol: u8)
+    fn note(&mut self, protocol: Protocol)
         ensures { self.new ≡ by_protocol self.old protocol }
     {
         match protocol {
-            0 => self.service = self.service.saturating_add(1),
-            1 => self.scsi = self.scsi.saturating_add(1),
-            2 => self.fast = self.fast.saturating_add(1),
-            3 => self.vendor = self.vendor.saturating_add(1),
-            _ => self.reserved = self.reserved.saturating_add(1),
+            Protocol::LinkService => add(&mut self.service, 1),
+            Protocol::Scsi => add(&mut self.scsi, 1),
+            Protocol::FastAccess => add(&mut self.fast, 1),
+            Protocol::Vendor => add(&mut self.vendor, 1),
+            Protocol::Reserved => add(&mut self.reserved, 1),
         }
     }
 }
@@ -55,25 +63,25 @@ impl Statuses {
         ensures { self.new ≡ by_status self.old status }
     {
         match status {
-            Status::BadCheck => self.check = self.check.saturating_add(1),
-            Status::OverLength => self.over = self.over.saturating_add(1),
-            Status::UnderLength => self.under = self.under.saturating_add(1),
+            Status::BadCheck => add(&mut self.check, 1),
+            Status::OverLength => add(&mut self.over, 1),
+            Status::UnderLength => add(&mut self.under, 1),
             _ => {}
         }
     }
 }
 
 impl Tally {
-    fn note_block(&mut self, seen: Seen)
+    fn note_block(&mut self, seen: Result<Message, Status>)
         ensures { self.new ≡ with_seen self.old seen }
     {
-        self.blocks = self.blocks.saturating_add(1);
+        add(&mut self.blocks, 1);
         match seen {
-            Seen::WellFormed(message) => {
-                self.formed = self.formed.saturating_add(1);
-                self.well.note(message.heading.protocol);
+            Ok(message) => {
+                add(&mut self.formed, 1);
+                self.well.note(message.heading.protocol());
             }
-            Seen::Damaged(status) => self.damaged.note(status),
+            Err(status) => self.damaged.note(status),
         }
     }
 
@@ -82,8 +90,8 @@ impl Tally {
     {
         match item {
             Item::Gap(gap) => {
-                self.skipped = self.skipped.saturating_add(gap.length as u64);
-                self.faulty = self.faulty.saturating_add(gap.begun as u64);
+                add(&mut self.skipped, gap.length as u64);
+                add(&mut self.faulty, gap.begun as u64);
             }
             Item::Block(carried) => self.note_block(carried.seen),
         }
@@ -93,27 +101,9 @@ impl Tally {
     pub fn of(items: &[Item]) -> Tally
         ensures { result ≡ tally items.now }
     {
-        let mut all = Tally {
-            blocks: 0,
-            formed: 0,
-            well: Protocols {
-                service: 0,
-                scsi: 0,
-                fast: 0,
-                vendor: 0,
-                reserved: 0,
-            },
-            damaged: Statuses {
-                check: 0,
-                over: 0,
-                under: 0,
-            },
-            skipped: 0,
-            faulty: 0,
-        };
-        for item in items {
+        items.iter().fold(Tally::default(), |mut all, item| {
             all.note(*item);
-        }
-        all
+            all
+        })
     }
 }
