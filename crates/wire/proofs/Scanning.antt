@@ -1,11 +1,11 @@
 -- What one turn of the scan leaves: scanning what is left gives what scanning the whole input gives.
-use Rattle.std.proofs.Common.{◌≡◌, ℕ, ◌+◌, ◌<◌, ◌≤◌, eqb, List, [], ◌∷◌, length, get_or, drop, sym, refl, ap, ◌∙◌}
+use Rattle.std.proofs.Common.{◌≡◌, ℕ, ◌+◌, ◌<◌, ◌≤◌, List, [], ◌∷◌, ◌++◌, length, get_or, take, drop, sym, ap, ◌∙◌, arith}
 use Rattle.std.proofs.lemmas.List.{at_drop_more, at_drop_all}
-use Rattle.std.proofs.lemmas.Bool.{cond_both}
+use Rattle.std.proofs.lemmas.Bool.{cond-true, cond-false, lt-ltb, le-ltb, eq-eqb, ne_eqb}
 use Rattle.wire.specs.declared.scan.Place.{Place}
-use Rattle.wire.specs.declared.scan.Place.TheVariants.{Outside}
+use Rattle.wire.specs.declared.scan.Place.TheVariants.{Outside, Inside}
 use Rattle.wire.specs.declared.scan.Act.{Act}
-use Rattle.wire.specs.declared.scan.Act.TheVariants.{Begin, Skip}
+use Rattle.wire.specs.declared.scan.Act.TheVariants.{Finish, Keep}
 use Rattle.wire.specs.Form.{Found, act_of, acted, scanned}
 
 -- at the end nothing is found
@@ -13,16 +13,26 @@ pub none : (p : Place) (sofar xs : List ℕ) (i : ℕ) → length xs ≤ i → s
 unfolding scanned
 none p sofar xs i h = at_drop_all (scanned p sofar) xs i h
 
--- outside a frame it is of no account what an abandoned one left
-pub outside : (sofar bs : List ℕ) → scanned Outside sofar bs ≡ scanned Outside [] bs
-unfolding scanned
-outside sofar [] = refl
-outside sofar (b ∷ bs) =
-    cond_both (eqb b 0x02) Begin Skip (λ a. acted Outside sofar bs (λ q v. scanned q v bs) a ≡ acted Outside [] bs (λ q v. scanned q v bs) a) (λ _. refl) (λ _. outside sofar bs)
+module _ (p : Place) (sofar xs : List ℕ) (i : ℕ) (f : Found) (h : i < length xs) (same : scanned p sofar (drop i xs) ≡ f) where
+  -- one byte on, by what it asks for
+  pub turned : (a : Act) → a ≡ act_of p (get_or xs i 0) → acted p sofar (drop (i + 1) xs) (λ q v. scanned q v (drop (i + 1) xs)) a ≡ f
+  unfolding scanned
+  turned a e =
+      ap (acted p sofar (drop (i + 1) xs) (λ q v. scanned q v (drop (i + 1) xs))) e
+      ∙ (sym (at_drop_more (scanned p sofar) xs i 0 h) ∙ same)
 
--- one byte on, by what it asks for
-pub turned : (p : Place) (sofar xs : List ℕ) (i : ℕ) (f : Found) → i < length xs → scanned p sofar (drop i xs) ≡ f → (a : Act) → a ≡ act_of p (get_or xs i 0) → acted p sofar (drop (i + 1) xs) (λ q v. scanned q v (drop (i + 1) xs)) a ≡ f
-unfolding scanned
-turned p sofar xs i f h same a e =
-    ap (acted p sofar (drop (i + 1) xs) (λ q v. scanned q v (drop (i + 1) xs))) e
-    ∙ (sym (at_drop_more (scanned p sofar) xs i 0 h) ∙ same)
+  pub kept : (x : ℕ) → Keep x ≡ act_of p (get_or xs i 0) → length sofar < 520 → scanned Inside (sofar ++ x ∷ []) (drop (i + 1) xs) ≡ f
+  kept x e l = sym (cond-true _ _ _ (lt-ltb (length sofar) 520 l)) ∙ turned (Keep x) e
+
+  pub full : (x : ℕ) → Keep x ≡ act_of p (get_or xs i 0) → 520 ≤ length sofar → scanned Outside [] (drop (i + 1) xs) ≡ f
+  full x e l = sym (cond-false _ _ _ (le-ltb (length sofar) 520 l)) ∙ turned (Keep x) e
+
+  pub empty : Finish ≡ act_of p (get_or xs i 0) → length sofar ≡ 0 → scanned Outside [] (drop (i + 1) xs) ≡ f
+  empty e l = sym (cond-true _ _ _ (eq-eqb (length sofar) 0 l)) ∙ turned Finish e
+
+  pub ended : Finish ≡ act_of p (get_or xs i 0) → 0 < length sofar → record { block = sofar; rest = drop (i + 1) xs } ≡ f
+  ended e l = sym (cond-false _ _ _ (ne_eqb (length sofar) 0 (λ z. omega arith))) ∙ turned Finish e
+
+-- the invariant at the new place, length and frame
+pub moved : (bs : List ℕ) {f : Found} {p q : Place} {n m : ℕ} {frame frame' : List ℕ} → q ≡ p → m ≡ n → frame' ≡ frame → n ≤ 520 → length frame ≡ 520 → scanned p (take n frame) bs ≡ f → (m ≤ 520) × (length frame' ≡ 520) × (scanned q (take m frame') bs ≡ f)
+moved bs a b c l k s = (omega arith, ap length c ∙ k, cc)

@@ -4,7 +4,6 @@ ghost use Rattle.wire.specs.Calls.{shown, read_answer, read_buffer};
 
 use crate::scan::scan;
 use crate::write::LONGEST_BLOCK;
-use arrayvec::ArrayVec;
 use refusal::{Layer, Reason, Refusal};
 
 // Writes the first block of the input to the front of `out`, and answers its length and the rest of the input.
@@ -16,11 +15,11 @@ pub fn read<'a>(input: &'a [u8], out: &mut [u8]) -> Result<(usize, &'a [u8]), Re
     if out.len() < LONGEST_BLOCK {
         return Err(Layer::Wire.refuses(Reason::TooShort));
     }
-    let mut frame = ArrayVec::new();
+    let mut frame = [0; LONGEST_BLOCK];
     let (n, rest) = scan(input, &mut frame);
     if n == 0 {
         return Err(Layer::Wire.refuses(Reason::NoWholeFrame));
     }
-    out[..n].copy_from_slice(&frame);
+    out[..n].copy_from_slice(&frame[..n]);
     Ok((n, rest))
 }

@@ -1,10 +1,8 @@
 // The scan for the first whole frame.
-ghost use Rattle.std.specs.Prelude.{◌≡◌, ◌≤◌};
-ghost use Rattle.arrayvec.specs.ArrayVec.{array_vec_len};
+ghost use Rattle.std.specs.Prelude.{◌≡◌, ◌≤◌, length, take};
 ghost use Rattle.wire.specs.Form.{act_of, found};
 
 use crate::write::LONGEST_BLOCK;
-use arrayvec::ArrayVec;
 
 // Where the scan stands.
 #[derive(Clone, Copy)]
@@ -39,35 +37,39 @@ fn act_on(place: Place, b: u8) -> Act
     }
 }
 
-// The first block of the input, left alone in `frame`: its length, 0 where there is none, and the rest of the input.
-// A tuple with 0 for none and no Option, as a rule of the project asks of the reader.
-#[tactic(auto, using(crate::proofs::Scanning::none))]
-pub(crate) fn scan<'a>(
-    input: &'a [u8],
-    frame: &mut ArrayVec<u8, LONGEST_BLOCK>,
-) -> (usize, &'a [u8])
-    ensures fits { result.0 ≤ 520 }
-    ensures size { result.0 ≡ array_vec_len frame.new }
-    ensures block { frame.new.items ≡ (found input.now).block }
+// The first block of the input, left at the front of `frame`, which is the scan's own and so may keep traces of
+// abandoned frames: its length, 0 where there is none, and the rest of the input.
+// A tuple with 0 for none and no Option, as a rule of the project asks of the reader. The length is a number beside an
+// array: a vector of fixed room is cleared byte by byte where a frame is begun anew, and keeps its length in memory. It
+// stays a function of its own when built: inside a caller's loop each byte takes some instructions more.
+#[inline(never)]
+pub(crate) fn scan<'a>(input: &'a [u8], frame: &mut [u8; LONGEST_BLOCK]) -> (usize, &'a [u8])
+    ensures within { result.0 ≤ 520 }
+    ensures size { result.0 ≡ length (found input.now).block }
+    ensures block { take result.0 frame.new ≡ (found input.now).block }
     ensures rest { result.1.now ≡ (found input.now).rest }
 {
     let mut place = Place::Outside;
+    let mut n = 0;
     for (i, b) in input.iter().enumerate() {
         match act_on(place, *b) {
             Act::Skip => {}
             Act::Begin => {
                 place = Place::Inside;
-                frame.clear();
+                n = 0;
             }
             Act::Escape => place = Place::Escaped,
-            Act::Finish if !frame.is_empty() => return (frame.len(), &input[i + 1..]),
-            Act::Keep(x) if !frame.is_full() => {
-                frame.push(x);
+            Act::Finish if n > 0 => return (n, &input[i + 1..]),
+            Act::Keep(x) if n < LONGEST_BLOCK => {
+                frame[n] = x;
+                n += 1;
                 place = Place::Inside;
             }
-            Act::Leave | Act::Finish | Act::Keep(_) => place = Place::Outside,
+            Act::Leave | Act::Finish | Act::Keep(_) => {
+                place = Place::Outside;
+                n = 0;
+            }
         }
     }
-    frame.clear();
     (0, &input[input.len()..])
 }

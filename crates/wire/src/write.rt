@@ -1,11 +1,10 @@
 // The writer of the wire form.
-ghost use Rattle.std.specs.Prelude.{◌≡◌, ◌+◌, ◌≤◌, ◌++◌, length, count_by, if◌then◌else◌, Ok, Err};
-ghost use Rattle.arrayvec.specs.ArrayVec.{array_vec_len};
+ghost use Rattle.std.specs.Prelude.{◌≡◌, ◌+◌, ◌≤◌, length, count_by, if◌then◌else◌, Ok, Err};
+ghost use Rattle.std.proofs.lemmas.List.Edits.{sets};
 ghost use Rattle.refusal.specs.declared.Reason.TheVariants.{BlockLength};
 ghost use Rattle.wire.specs.Calls.{refusal, unfit, measure_answer, write_answer, write_buffer};
 ghost use Rattle.wire.specs.Form.{reserved, escaped};
 
-use arrayvec::ArrayVec;
 use refusal::{Layer, Reason, Refusal};
 
 // How many bytes a block has at most.
@@ -29,16 +28,19 @@ fn is_reserved(b: u8) -> bool
     matches!(b, 0x02 | 0x03 | 0x1b)
 }
 
-// Adds the byte as it goes out inside a frame.
-fn push_escaped(frame: &mut ArrayVec<u8, LONGEST_FRAME>, b: u8)
-    requires { array_vec_len frame.old + 2 ≤ LONGEST_FRAME }
-    ensures { frame.new.items ≡ frame.old.items ++ escaped b }
+// Writes the byte as it goes out inside a frame, from place `n` on, and answers the place behind it.
+fn put(b: u8, out: &mut [u8], n: usize) -> usize
+    requires { n + 2 ≤ length out.old }
+    ensures next { result ≡ n + length (escaped b) }
+    ensures after { out.new ≡ sets out.old n (escaped b) }
 {
     if is_reserved(b) {
-        frame.push(0x1b);
-        frame.push(b + 0x80);
+        out[n] = 0x1b;
+        out[n + 1] = b + 0x80;
+        n + 2
     } else {
-        frame.push(b);
+        out[n] = b;
+        n + 1
     }
 }
 
@@ -59,8 +61,8 @@ pub fn measure(block: &[u8]) -> Result<usize, Refusal>
 }
 
 // Writes the block's frame to the front of `out`, and answers its length.
-// A length beside the buffer: the caller lends the memory, here and in every layer.
-#[tactic(auto, using(crate::proofs::Writing::grown, crate::proofs::Writing::front_fits), unfolding(crate::specs::Form::inner))]
+// A length beside the buffer: the caller lends the memory, here and in every layer. The frame is written where it stays:
+// a vector of fixed room fills all of that at each call, which costs a short block more than its frame.
 pub fn write(block: &[u8], out: &mut [u8]) -> Result<usize, Refusal>
     ensures answer { result ≡ write_answer block.now out.old }
     ensures after { out.new ≡ write_buffer block.now out.old }
@@ -69,12 +71,11 @@ pub fn write(block: &[u8], out: &mut [u8]) -> Result<usize, Refusal>
         return Err(Layer::Wire.refuses(Reason::TooShort));
     }
     check_length(block)?;
-    let mut frame = ArrayVec::new();
-    frame.push(0x02);
+    out[0] = 0x02;
+    let mut n = 1;
     for b in block {
-        push_escaped(&mut frame, *b);
+        n = put(*b, out, n);
     }
-    frame.push(0x03);
-    out[..frame.len()].copy_from_slice(&frame);
-    Ok(frame.len())
+    out[n] = 0x03;
+    Ok(n + 1)
 }
