@@ -73,10 +73,10 @@ Left w value capture now input =
     (length input ≤ length capture) ×
     ((turns : ℕ) × (length input ≤ turns) × (now ++ items w value turns (length capture - length input) input ≡ survey_of w value capture))
 
-pub begins : (w : ℕ) (value : List ℕ → ℕ) (capture : List ℕ) (now : List Item) → now ≡ [] → Left w value capture now capture
-begins w value capture now e =
+pub begins : (w : ℕ) (value : List ℕ → ℕ) (capture input : List ℕ) (now : List Item) → input ≡ capture → now ≡ [] → Left w value capture now input
+begins w value capture input now whole e =
     let start : length capture - length capture ≡ 0 = omega arith in
-    (omega arith, (length capture, omega arith, rw (e, start)))
+    rw whole (omega arith, (length capture, omega arith, rw (e, start)))
 
 items_none : (w : ℕ) (value : List ℕ → ℕ) (turns offset : ℕ) (input : List ℕ) → length (found input).block ≡ 0 →
     items w value turns offset input ≡ gap_item offset input

@@ -13,7 +13,7 @@ use wire::write::measure;
 fn count_begun(bytes: &[u8]) -> usize
     ensures { result ≡ begun bytes.now }
 {
-    bytes.iter().filter(|b| **b == 0x02).count()
+    bytes.iter().map(|b| usize::from(*b == 0x02)).sum()
 }
 
 // Notes bytes that belong to no block, if there are any.

@@ -3,7 +3,7 @@ use Rattle.survey.proofs.Passing.{begins, less, again, ends}
 use Rattle.survey.proofs.pass.survey.Goals as goal
 
 pub loop-items-init : goal.loop-items-init
-loop-items-init g c = begins g.K.Check.code.width g.K.Check.code.value c.args.capture.now _ (search rules)
+loop-items-init g c = begins g.K.Check.code.width g.K.Check.code.value c.args.capture.now _ _ (search rules) (search rules)
 
 pub loop-items-smaller : goal.loop-items-smaller
 loop-items-smaller g c = less _ _ c.args.capture.now _ _ c.loop-items.input.now _ c.in-Some.rest c.in-Some.is c.in_ok-rest.ensures
