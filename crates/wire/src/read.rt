@@ -2,7 +2,7 @@
 ghost use Rattle.std.specs.Prelude.{◌≡◌};
 ghost use Rattle.wire.specs.Calls.{shown, read_answer, read_buffer};
 
-use crate::scan::scan;
+use crate::scan::{scan, skip};
 use crate::write::LONGEST_BLOCK;
 use refusal::{Layer, Reason, Refusal};
 
@@ -16,7 +16,7 @@ pub fn read<'a>(input: &'a [u8], out: &mut [u8]) -> Result<(usize, &'a [u8]), Re
         return Err(Layer::Wire.refuses(Reason::TooShort));
     }
     let mut frame = [0; LONGEST_BLOCK];
-    let (n, rest) = scan(input, &mut frame);
+    let (n, rest) = scan(skip(input), &mut frame);
     if n == 0 {
         return Err(Layer::Wire.refuses(Reason::NoWholeFrame));
     }

@@ -1,5 +1,5 @@
 // The scan for the first whole frame.
-ghost use Rattle.std.specs.Prelude.{◌≡◌, ◌≤◌, length, take};
+ghost use Rattle.std.specs.Prelude.{◌≡◌, ◌≤◌, length, take, ◌==◌, position};
 ghost use Rattle.wire.specs.Form.{act_of, found};
 
 use crate::write::LONGEST_BLOCK;
@@ -37,12 +37,27 @@ fn act_on(place: Place, b: u8) -> Act
     }
 }
 
+// Where the first frame begins, if one does.
+fn begin(input: &[u8]) -> Option<usize>
+    ensures { result ≡ position (λ b. b == 0x02) input.now }
+{
+    let mut bytes = input.iter();
+    bytes.position(|b| *b == 0x02)
+}
+
+// The input from its first 02h on: what precedes a frame is ignored, and this is the quickest way past it.
+#[tactic(auto, using(crate::proofs::Scanning::skips))]
+pub(crate) fn skip(input: &[u8]) -> &[u8]
+    ensures { found result.now ≡ found input.now }
+{
+    let place = begin(input).unwrap_or(input.len());
+    &input[place..]
+}
+
 // The first block of the input, left at the front of `frame`, which is the scan's own and so may keep traces of
 // abandoned frames: its length, 0 where there is none, and the rest of the input.
 // A tuple with 0 for none and no Option, as a rule of the project asks of the reader. The length is a number beside an
-// array: a vector of fixed room is cleared byte by byte where a frame is begun anew, and keeps its length in memory. It
-// stays a function of its own when built: inside a caller's loop each byte takes some instructions more.
-#[inline(never)]
+// array: a vector of fixed room is cleared byte by byte where a frame is begun anew, and keeps its length in memory.
 pub(crate) fn scan<'a>(input: &'a [u8], frame: &mut [u8; LONGEST_BLOCK]) -> (usize, &'a [u8])
     ensures within { result.0 ≤ 520 }
     ensures size { result.0 ≡ length (found input.now).block }
